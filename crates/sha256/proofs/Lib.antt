@@ -1,0 +1,7 @@
+pub mod DigestBytes
+pub mod MessageSchedule
+pub mod Padding
+pub mod Parts
+pub mod RoundRuns
+pub mod Vectors
+pub mod Words

@@ -1,0 +1,124 @@
+-- The padded message: its length, its least padding, and its blocks as they are made from the message.
+-- Assumes nothing.
+use mathlib.Core.List.{List, [], _∷_, _++_, append-assoc}
+use mathlib.Core.Logic.{⊎-elim}
+use mathlib.Core.Path.{_≡_, sym, ap, _∙_}
+use Prim.Native.Nat.{ℕ, _+_, _*_, _-_, _/_, _%_, _^_, _≤_, _<_}
+use native.Mathlib.Nat.{eq-or-lt-of-le, add-zero}
+use native.Mathlib.Omega.{arith}
+use lib.ListN.{length, getD, set, replicate, length-append, length-replicate, length-set, getD-replicate, List·getD-append, List·getD-eq-default, replicate-append-replicate}
+use lib.Seq.{getD-append-add, getD-set-same, getD-set-other}
+use Rattle.sha256.specs.Claims as claims
+use Rattle.sha256.specs.Fips180.{zeroBytes, padded, wordAt, wordBytes, wordsAt, block}
+use Rattle.sha256.proofs.Words.{lt-or-le, word-same, words-same, words-length, words-at, words-are}
+
+pub padding-fits : claims.PaddingFits
+unfolding zeroBytes
+padding-fits n = omega arith
+
+pub padding-least : claims.PaddingLeast
+unfolding zeroBytes
+padding-least n k e = omega arith
+
+-- the message and the byte behind it
+abbrev pub ended : List ℕ → List ℕ
+ended m = m ++ (128 ∷ [])
+
+pub padded-length : (m : List ℕ) → length (padded m) ≡ (length m + 72) / 64 * 64
+unfolding padded zeroBytes
+padded-length m = simp (length-append, length-replicate) (omega arith)
+
+pub whole-blocks : claims.WholeBlocks
+whole-blocks m = omega (arith, padded-length m)
+
+-- how many bytes stand before the last word of the padded message
+abbrev front : ℕ → ℕ
+front n = n + 5 + zeroBytes n
+
+-- the length in bits fits one word, so zeros stand up to it
+padded-short : (m : List ℕ) → length m ≤ 65535 → padded m ≡ ended m ++ (replicate (zeroBytes (length m) + 4) 0 ++ wordBytes (8 * length m))
+unfolding padded
+padded-short m h =
+    let high : 8 * length m / 2 ^ 32 ≡ 0 = omega arith in
+    let low : 8 * length m % 2 ^ 32 ≡ 8 * length m = omega arith in
+    let zeros = replicate {A = ℕ} (zeroBytes (length m)) 0 in
+    rw (high, low)
+    (ap (λ (r : List ℕ). ended m ++ r)
+    (sym (append-assoc zeros (replicate 4 0) (wordBytes (8 * length m)))
+    ∙ ap (λ (r : List ℕ). r ++ wordBytes (8 * length m)) (replicate-append-replicate (zeroBytes (length m)) 4 0)))
+
+-- up to its last word the padded message is the message, the byte 0x80 and zeros
+padded-front : (m : List ℕ) (k : ℕ) → length m ≤ 65535 → k < front (length m) → getD (ended m) k 0 ≡ getD (padded m) k 0
+padded-front m k h below =
+    rw (padded-short m h)
+    (⊎-elim
+    (λ l. sym (List·getD-append (ended m) rest 0 k l))
+    (λ g.
+    let at : k ≡ length (ended m) + (k - length (ended m)) = omega arith in
+    List·getD-eq-default (ended m) 0 g
+    ∙ sym (ap (λ (n : ℕ). getD (ended m ++ rest) n 0) at
+    ∙ getD-append-add (ended m) rest (k - length (ended m)) 0
+    ∙ List·getD-append zeros (wordBytes (8 * length m)) 0 _ (simp length-replicate (omega (arith, length-append m (128 ∷ []))))
+    ∙ getD-replicate (zeroBytes (length m) + 4) (k - length (ended m)) 0 0 (omega (arith, length-append m (128 ∷ [])))))
+    (lt-or-le k (length (ended m))))
+  where
+    zeros : List ℕ
+    zeros = replicate (zeroBytes (length m) + 4) 0
+
+    rest : List ℕ
+    rest = zeros ++ wordBytes (8 * length m)
+
+-- the last word of the padded message is the length in bits
+padded-last : (m : List ℕ) → length m ≤ 65535 → wordAt (padded m) (front (length m)) ≡ length m * 8
+unfolding wordAt
+padded-last m h =
+    rw (padded-short m h, ← append-assoc (ended m) zeros lengthBytes)
+    (omega (arith, rw add-zero at (byte 0), byte 1, byte 2, byte 3))
+  where
+    zeros : List ℕ
+    zeros = replicate (zeroBytes (length m) + 4) 0
+
+    lengthBytes : List ℕ
+    lengthBytes = wordBytes (8 * length m)
+
+    at : length (ended m ++ zeros) ≡ front (length m)
+    at = simp (length-append, length-replicate) (omega arith)
+
+    byte : (k : ℕ) → getD (ended m ++ zeros ++ lengthBytes) (front (length m) + k) 0 ≡ getD lengthBytes k 0
+    byte k = ap (λ (n : ℕ). getD (ended m ++ zeros ++ lengthBytes) (n + k) 0) (sym at) ∙ getD-append-add (ended m ++ zeros) lengthBytes k 0
+
+-- the message stands first
+padded-message : (m : List ℕ) (k : ℕ) → k < length m → getD m k 0 ≡ getD (padded m) k 0
+unfolding padded
+padded-message m k h =
+    sym (List·getD-append (ended m) _ 0 k (omega (arith, length-append m (128 ∷ []))) ∙ List·getD-append m (128 ∷ []) 0 k h)
+
+module _ (m : List ℕ) (i : ℕ) where
+  -- a block that lies in the message
+  pub block-whole : 64 * i + 64 ≤ length m → wordsAt 16 m (64 * i) ≡ block (padded m) i
+  unfolding block
+  block-whole h = words-same 16 m (padded m) (64 * i) (λ k above below. padded-message m k (omega arith))
+
+  -- a block behind that, and before the last
+  pub block-ended : length m ≤ 65535 → i < (length m + 8) / 64 → wordsAt 16 (ended m) (64 * i) ≡ block (padded m) i
+  unfolding block zeroBytes
+  block-ended h before =
+      words-same 16 (ended m) (padded m) (64 * i) (λ k above below. padded-front m k h (omega arith))
+
+  -- the last block
+  pub block-last : length m ≤ 65535 → i ≡ (length m + 8) / 64 → set (wordsAt 16 (ended m) (64 * i)) 15 (length m * 8) ≡ block (padded m) i
+  unfolding block zeroBytes
+  block-last h last =
+      words-are 16 (padded m) (64 * i) _ (simp length-set (words-length 16 (ended m) (64 * i)))
+      (λ u below.
+      ⊎-elim
+      (λ same.
+      rw same
+      (getD-set-same (wordsAt 16 (ended m) (64 * i)) 15 (length m * 8) 0 (omega (arith, words-length 16 (ended m) (64 * i)))
+      ∙ sym (padded-last m h)
+      ∙ ap (wordAt (padded m)) (omega arith)))
+      (λ l.
+      getD-set-other (wordsAt 16 (ended m) (64 * i)) 15 u (length m * 8) 0 (λ same. omega arith)
+      ∙ words-at 16 (ended m) (64 * i) u below
+      ∙ word-same (ended m) (padded m) (64 * i + 4 * u) (λ k above under. padded-front m k h (omega arith)))
+      (eq-or-lt-of-le {n = u} {m = 15} (omega arith)))

@@ -1,0 +1,101 @@
+-- Words of a list of bytes, and an array that is filled with them one by one.
+-- Assumes nothing.
+use mathlib.Core.List.{List, [], _∷_, _++_}
+use mathlib.Core.Logic.{_⊎_, inl, inr, ⊎-elim}
+use mathlib.Core.Path.{_≡_, refl, sym, ap, ap₂, _∙_}
+use Prim.Native.Nat.{ℕ, zero, suc, _+_, _*_, _≤_, _<_}
+use native.Mathlib.Decide.{decLt}
+use native.Mathlib.Nat.{eq-or-lt-of-le, add-assoc}
+use native.Mathlib.Omega.{arith}
+use lib.ListN.{length, getD, set, replicate, length-set, getD-replicate, List·getD-append, List·getD-eq-default}
+use lib.Seq.{ext-getD, getD-set-same, getD-set-other}
+use Rattle.sha256.specs.Fips180.{wordAt, wordsAt}
+
+pub lt-or-le : (a b : ℕ) → (a < b) ⊎ (b ≤ a)
+lt-or-le a b = go (decLt a b)
+  where
+    go : Dec (a < b) → (a < b) ⊎ (b ≤ a)
+    go (yes h) = inl h
+    go (no n) = inr (omega arith)
+
+-- a word depends on its four bytes
+pub word-same : (p q : List ℕ) (j : ℕ) → ((k : ℕ) → j ≤ k → k < j + 4 → getD p k 0 ≡ getD q k 0) → wordAt p j ≡ wordAt q j
+unfolding wordAt
+word-same p q j e =
+    rw (e j (omega arith) (omega arith), e (j + 1) (omega arith) (omega arith), e (j + 2) (omega arith) (omega arith), e (j + 3) (omega arith) (omega arith))
+
+-- what stands behind a list does not change its words
+pub word-front : (p q : List ℕ) (j : ℕ) → j + 4 ≤ length p → wordAt (p ++ q) j ≡ wordAt p j
+word-front p q j h = word-same (p ++ q) p j (λ k above below. List·getD-append p q 0 k (omega arith))
+
+-- behind the end of a list all words are zero
+pub word-behind : (p : List ℕ) (j : ℕ) → length p ≤ j → wordAt p j ≡ 0
+unfolding wordAt
+word-behind p j h =
+    rw (List·getD-eq-default p 0 {n = j} h, List·getD-eq-default p 0 {n = j + 1} (omega arith), List·getD-eq-default p 0 {n = j + 2} (omega arith), List·getD-eq-default p 0 {n = j + 3} (omega arith))
+
+pub words-length : (n : ℕ) (p : List ℕ) (j : ℕ) → length (wordsAt n p j) ≡ n
+unfolding wordsAt
+words-length zero p j = refl
+words-length (suc n) p j = ap suc (words-length n p (j + 4))
+
+pub words-at : (n : ℕ) (p : List ℕ) (j u : ℕ) → u < n → getD (wordsAt n p j) u 0 ≡ wordAt p (j + 4 * u)
+unfolding wordsAt
+words-at zero p j u h = absurd (omega arith)
+words-at (suc n) p j zero h = ap (wordAt p) (omega arith)
+words-at (suc n) p j (suc u) h = words-at n p (j + 4) u (omega arith) ∙ ap (wordAt p) (omega arith)
+
+-- words depend on their bytes
+pub words-same : (n : ℕ) (p q : List ℕ) (j : ℕ) → ((k : ℕ) → j ≤ k → k < j + 4 * n → getD p k 0 ≡ getD q k 0)
+    → wordsAt n p j ≡ wordsAt n q j
+unfolding wordsAt
+words-same zero p q j e = refl
+words-same (suc n) p q j e =
+    ap₂ _∷_
+    (word-same p q j (λ k above below. e k above (omega arith)))
+    (words-same n p q (j + 4) (λ k above below. e k (omega arith) (omega arith)))
+
+-- a list with the right words is the list of words
+pub words-are : (n : ℕ) (p : List ℕ) (j : ℕ) (w : List ℕ) → length w ≡ n → ((u : ℕ) → u < n → getD w u 0 ≡ wordAt p (j + 4 * u))
+    → w ≡ wordsAt n p j
+words-are n p j w e each =
+    ext-getD 0 w (wordsAt n p j) (e ∙ sym (words-length n p j))
+    (λ u below. let h : u < n = omega arith in each u h ∙ sym (words-at n p j u h))
+
+-- the first t of sixteen words are those of p from byte j on, and the others are zero
+pub record Filled (p : List ℕ) (j t : ℕ) (w : List ℕ) : Type 0 where
+  pub sixteen : length w ≡ 16
+  pub made : (u : ℕ) → u < t → getD w u 0 ≡ wordAt p (j + 4 * u)
+  pub blank : (u : ℕ) → t ≤ u → getD w u 0 ≡ 0
+
+pub filled-none : (p : List ℕ) (j : ℕ) → Filled p j 0 (replicate 16 0)
+filled-none p j = record {
+  sixteen = refl;
+  made = λ u below. absurd (omega arith);
+  blank = λ u above. ⊎-elim (getD-replicate 16 u 0 0) (List·getD-eq-default (replicate 16 0) 0) (lt-or-le u 16);
+}
+
+pub filled-more : (p : List ℕ) (j t : ℕ) (w : List ℕ) (x : ℕ) → t < 16 → x ≡ wordAt p (j + 4 * t) → Filled p j t w
+    → Filled p j (t + 1) (set w t x)
+filled-more p j t w x h e f = record {
+  sixteen = simp length-set (f .sixteen);
+  made = λ u below.
+      ⊎-elim (λ same. rw same (getD-set-same w t x 0 (omega (arith, f .sixteen)) ∙ e))
+      (λ older. getD-set-other w t u x 0 (λ same. omega arith) ∙ f .made u older)
+      (eq-or-lt-of-le {n = u} {m = t} (omega arith));
+  blank = λ u above. getD-set-other w t u x 0 (λ same. omega arith) ∙ f .blank u (omega arith);
+}
+
+-- where p ends within the filled words, all sixteen are p's
+pub filled-all : (p : List ℕ) (j t : ℕ) (w : List ℕ) → length p ≤ j + 4 * t → Filled p j t w → w ≡ wordsAt 16 p j
+filled-all p j t w h f =
+    words-are 16 p j w (f .sixteen)
+    (λ u below.
+    ⊎-elim (f .made u) (λ above. f .blank u above ∙ sym (word-behind p (j + 4 * u) (omega arith))) (lt-or-le u t))
+
+-- sixteen words, written out
+pub sixteen-words : (p : List ℕ) (j : ℕ)
+    → wordsAt 16 p j
+    ≡ wordAt p j ∷ wordAt p (j + 4) ∷ wordAt p (j + 8) ∷ wordAt p (j + 12) ∷ wordAt p (j + 16) ∷ wordAt p (j + 20) ∷ wordAt p (j + 24) ∷ wordAt p (j + 28) ∷ wordAt p (j + 32) ∷ wordAt p (j + 36) ∷ wordAt p (j + 40) ∷ wordAt p (j + 44) ∷ wordAt p (j + 48) ∷ wordAt p (j + 52) ∷ wordAt p (j + 56) ∷ wordAt p (j + 60) ∷ []
+unfolding wordsAt
+sixteen-words p j = simp add-assoc

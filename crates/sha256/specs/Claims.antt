@@ -1,0 +1,53 @@
+-- What is claimed of the definition of SHA-256: each claim is a type, and proofs/ has its proof.
+use mathlib.Core.List.{List, [], _∷_}
+use mathlib.Core.Path.{_≡_}
+use Prim.Native.Nat.{ℕ, _+_, _*_, _-_, _%_, _≤_, _<_}
+use lib.ListN.{length, getD}
+use Rattle.sha256.specs.Fips180.{W, add32, bytesOf, padded, sha256, zeroBits, σ0, σ1}
+
+-- a digest has 32 bytes
+abbrev pub DigestLength : Type 0
+DigestLength = (m : List ℕ) → length (sha256 m) ≡ 32
+
+-- and each is below 256
+abbrev pub DigestBytes : Type 0
+DigestBytes = (m : List ℕ) (i : ℕ) → getD (sha256 m) i 0 < 256
+
+-- 6.2.2, step 1, as the standard writes it: W_t = M_t for 0 ≤ t ≤ 15
+abbrev pub FirstWords : Type 0
+FirstWords = (M : List ℕ) (t : ℕ) → t < 16 → W M t ≡ getD M t 0
+
+-- and W_t = σ1(W_{t−2}) + W_{t−7} + σ0(W_{t−15}) + W_{t−16} for 16 ≤ t ≤ 63
+abbrev pub LaterWords : Type 0
+LaterWords =
+    (M : List ℕ) (t : ℕ) → 16 ≤ t
+    → W M t ≡ add32 (add32 (add32 (σ1 (W M (t - 2))) (W M (t - 7))) (σ0 (W M (t - 15)))) (W M (t - 16))
+
+-- 5.1.1: the k of a message of n bytes, l = 8n bits, solves l + 1 + k = 448 modulo 512
+abbrev pub PaddingFits : Type 0
+PaddingFits = (n : ℕ) → (8 * n + 1 + zeroBits n) % 512 ≡ 448
+
+-- and is the smallest that does
+abbrev pub PaddingLeast : Type 0
+PaddingLeast = (n k : ℕ) → (8 * n + 1 + k) % 512 ≡ 448 → zeroBits n ≤ k
+
+-- 5.2.1: the padded message is a number of whole blocks
+abbrev pub WholeBlocks : Type 0
+WholeBlocks = (m : List ℕ) → length (padded m) % 64 ≡ 0
+
+-- "abcdbcdecdefdefgefghfghighijhijkijkljklmklmnlmnomnopnopq"
+abbrev pub abcdbcde : List ℕ
+abcdbcde =
+    0x61 ∷ 0x62 ∷ 0x63 ∷ 0x64 ∷ 0x62 ∷ 0x63 ∷ 0x64 ∷ 0x65 ∷ 0x63 ∷ 0x64 ∷ 0x65 ∷ 0x66 ∷ 0x64 ∷ 0x65
+    ∷ 0x66 ∷ 0x67 ∷ 0x65 ∷ 0x66 ∷ 0x67 ∷ 0x68 ∷ 0x66 ∷ 0x67 ∷ 0x68 ∷ 0x69 ∷ 0x67 ∷ 0x68 ∷ 0x69 ∷ 0x6a
+    ∷ 0x68 ∷ 0x69 ∷ 0x6a ∷ 0x6b ∷ 0x69 ∷ 0x6a ∷ 0x6b ∷ 0x6c ∷ 0x6a ∷ 0x6b ∷ 0x6c ∷ 0x6d ∷ 0x6b ∷ 0x6c
+    ∷ 0x6d ∷ 0x6e ∷ 0x6c ∷ 0x6d ∷ 0x6e ∷ 0x6f ∷ 0x6d ∷ 0x6e ∷ 0x6f ∷ 0x70 ∷ 0x6e ∷ 0x6f ∷ 0x70 ∷ 0x71 ∷ []
+
+-- the standard's examples: one block, no byte, and two blocks (448 bits)
+abbrev pub Vectors : Type 0
+Vectors =
+    (sha256 (0x61 ∷ 0x62 ∷ 0x63 ∷ [])
+    ≡ bytesOf (0xba7816bf ∷ 0x8f01cfea ∷ 0x414140de ∷ 0x5dae2223 ∷ 0xb00361a3 ∷ 0x96177a9c ∷ 0xb410ff61 ∷ 0xf20015ad ∷ []))
+    × (sha256 []
+    ≡ bytesOf (0xe3b0c442 ∷ 0x98fc1c14 ∷ 0x9afbf4c8 ∷ 0x996fb924 ∷ 0x27ae41e4 ∷ 0x649b934c ∷ 0xa495991b ∷ 0x7852b855 ∷ []))
+    × (sha256 abcdbcde ≡ bytesOf (0x248d6a61 ∷ 0xd20638b8 ∷ 0xe5c02693 ∷ 0x0c3e6039 ∷ 0xa33ce459 ∷ 0x64ff2167 ∷ 0xf6ecedd4 ∷ 0x19db06c1 ∷ []))

@@ -1,0 +1,5 @@
+pub mod Answer
+pub mod Claims
+pub mod Fips180
+pub mod Rounds
+pub mod Window

@@ -1,0 +1,65 @@
+// SHA-256 of a message of 0 to 65,535 bytes.
+//
+// specs/Fips180.antt is FIPS 180-4, section by section; specs/Answer.antt is what a call answers.
+mod message;
+mod rounds;
+mod schedule;
+pub mod tagged;
+mod word;
+
+ghost use mathlib.Core.Path.{_≡_};
+ghost use Prim.Native.Nat.{_≤_};
+ghost use lib.ListN.{length};
+ghost use Rattle.sha256.specs.Answer.{hashed};
+ghost use Rattle.sha256.specs.Fips180 as fips;
+use message::block;
+use message::block_count;
+use rounds::compress;
+use rounds::digest_of;
+use rounds::initial;
+
+// The answer to a message: number 0 and its digest, or the refusal 1 and zeros.
+pub struct Hashed {
+    pub number: u32,
+    pub digest: [u8; 32],
+}
+
+// Eight words: the working variables a to h, or a hash value H_0 to H_7.
+pub struct State {
+    pub a: u32,
+    pub b: u32,
+    pub c: u32,
+    pub d: u32,
+    pub e: u32,
+    pub f: u32,
+    pub g: u32,
+    pub h: u32,
+}
+
+pub fn sha256(message: &[u8]) -> Hashed
+    ensures { λ r. ⌜ r ≡ hashed (now (message .entry)) ⌝ }
+{
+    if 65535 < message.len() {
+        return Hashed {
+            number: 1,
+            digest: [0u8; 32],
+        };
+    }
+    Hashed {
+        number: 0,
+        digest: digest(message),
+    }
+}
+
+// Internal: a message that is not too long.
+pub fn digest(message: &[u8]) -> [u8; 32]
+    requires { ⌜ length (now message) ≤ 65535 ⌝ }
+    ensures { λ r. ⌜ r ≡ fips.sha256 (now (message .entry)) ⌝ }
+{
+    let count = block_count(message.len());
+    let mut state = initial();
+    for i in 0..count {
+        state = compress(state, block(message, i));
+    }
+    digest_of(state)
+}
