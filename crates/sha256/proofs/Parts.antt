@@ -4,7 +4,7 @@ use mathlib.Core.List.{List, [], _∷_, _++_, append-nil, append-assoc}
 use mathlib.Core.Path.{_≡_, refl, sym, ap, _∙_}
 use Prim.Native.Nat.{ℕ, suc, _+_, _-_, _≤_}
 use native.Mathlib.Omega.{arith}
-use borrow.Rule.Slice.PartMut.{midOf, postOf, putMid, same-len-mid}
+use borrow.Rule.Slice.PartMut.{midOf, postOf, putMid}
 use lib.ListN.{length, take, drop, length-append, length-take, length-drop}
 use lib.Seq.{take-length, take-at}
 
@@ -36,12 +36,3 @@ module _ (t : ℕ) (x y p q a : List ℕ) (fits : length x + length y ≤ 64) (r
         rw (first-front, second, take-length, e)
         (ap (λ (l : List ℕ). take (length (t ∷ (x ++ y))) (t ∷ l)) (ap (λ (l : List ℕ). x ++ l) (append-assoc y rest post) ∙ sym (append-assoc x y (rest ++ post)))
         ∙ take-at (t ∷ (x ++ y)) (rest ++ post) (length (t ∷ (x ++ y))) refl)
-
-    pub both-length : length (putMid (1 + length x) (65 - (1 + length x)) (t ∷ (p ++ [])) q) ≡ 65
-    both-length =
-        same-len-mid (1 + length x) (65 - (1 + length x)) (t ∷ (p ++ [])) q
-        (ap length second ∙ over-length y (midOf (1 + length x) (65 - (1 + length x)) (t ∷ (p ++ []))) (omega (arith, middle)))
-        ∙ first-length
-      where
-        middle : length (midOf (1 + length x) (65 - (1 + length x)) (t ∷ (p ++ []))) ≡ 64 - length x
-        middle = simp (length-take, length-drop, first-length) (omega arith)

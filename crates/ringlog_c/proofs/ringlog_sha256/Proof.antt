@@ -1,3 +1,5 @@
+-- The answer of `sha256`, field by field.
+-- Assumes nothing.
 use mathlib.Core.Path.{ap}
 use borrow.Author.Needs.{needs}
 use Rattle.ringlog_c.specs.Wire.{digestWire}

@@ -1,3 +1,5 @@
+-- The two answers of `hashed`, by the length of the message.
+-- Assumes nothing.
 use borrow.Author.Needs.{needs}
 use borrow.Author.Tests.{lt-ltb, le-ltb}
 use Rattle.sha256.specs.Answer.{hashed}

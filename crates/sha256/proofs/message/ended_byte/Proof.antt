@@ -1,3 +1,5 @@
+-- A byte of the message, the byte behind it, or behind both.
+-- Assumes nothing.
 use mathlib.Core.List.{_++_, [], _∷_}
 use mathlib.Core.Path.{sym}
 use native.Mathlib.Omega.{arith}

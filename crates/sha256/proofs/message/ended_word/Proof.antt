@@ -1,3 +1,5 @@
+-- Four bytes of the message with 0x80 and zeros behind it.
+-- Assumes nothing.
 use borrow.Author.Needs.{needs}
 use Rattle.sha256.specs.Fips180.{wordAt}
 use Rattle.sha256.proofs.message.ended_word.Statement.{statement}
@@ -11,12 +13,6 @@ pub ended-word-spec : {M : Type 1} → statement M
 ended-word-spec =
     tie.close
     (tie.spec
-    (λ c κs. search needs)
-    (λ c. search needs)
-    (λ c κs. search needs)
-    (λ c. search needs)
-    (λ c κs. search needs)
-    (λ c. search needs)
-    (λ c κs. search needs)
-    (λ c κs. search needs)
+    (λ c κs. search needs) (λ c. search needs) (λ c κs. search needs) (λ c. search needs) (λ c κs. search needs)
+    (λ c. search needs) (λ c κs. search needs) (λ c κs. search needs)
     returns)

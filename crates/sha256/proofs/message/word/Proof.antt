@@ -1,3 +1,5 @@
+-- Four bytes of the message.
+-- Assumes nothing.
 use borrow.Author.Needs.{needs}
 use Rattle.sha256.specs.Fips180.{wordAt}
 use Rattle.sha256.proofs.message.word.Statement.{statement}
@@ -11,12 +13,6 @@ pub word-spec : {M : Type 1} → statement M
 word-spec =
     tie.close
     (tie.spec
-    (λ c. search needs)
-    (λ c. search needs)
-    (λ c. search needs)
-    (λ c. search needs)
-    (λ c. search needs)
-    (λ c. search needs)
-    (λ c. search needs)
-    (λ c κs. search needs)
+    (λ c. search needs) (λ c. search needs) (λ c. search needs) (λ c. search needs) (λ c. search needs) (λ c. search needs)
+    (λ c. search needs) (λ c κs. search needs)
     returns)

@@ -1,3 +1,5 @@
+-- The first sixteen rounds, and three runs of sixteen behind them.
+-- Assumes nothing.
 use borrow.Author.Needs.{needs}
 use Rattle.sha256.proofs.MessageSchedule.{kept-block}
 use Rattle.sha256.proofs.RoundRuns.{_then_}
@@ -16,8 +18,5 @@ pub all-rounds-spec : {M : Type 1} → statement M
 all-rounds-spec =
     tie.close
     (tie.spec
-    (λ c κs. search needs)
-    (λ c κs. search needs)
-    (λ c κs. search needs)
-    (λ c κs. search needs)
+    (λ c κs. search needs) (λ c κs. search needs) (λ c κs. search needs) (λ c κs. search needs)
     returns)

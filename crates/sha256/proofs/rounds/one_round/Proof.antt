@@ -1,3 +1,5 @@
+-- The standard's assignments, from the calls' equations.
+-- Assumes nothing.
 use borrow.Author.Needs.{needs}
 use Rattle.sha256.specs.Fips180.{round}
 use Rattle.sha256.proofs.rounds.one_round.Statement.{statement}

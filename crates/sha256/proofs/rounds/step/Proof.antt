@@ -1,3 +1,5 @@
+-- Word t is made, and the round is the standard's for it.
+-- Assumes nothing.
 use borrow.Author.Needs.{needs}
 use Rattle.sha256.proofs.RoundRuns.{round-step}
 use Rattle.sha256.proofs.rounds.step.Statement.{statement}

@@ -1,3 +1,5 @@
+-- The standard's sum, from the calls' equations.
+-- Assumes nothing.
 use borrow.Author.Needs.{needs}
 use Rattle.sha256.specs.Fips180.{T1}
 use Rattle.sha256.proofs.rounds.temp1.Statement.{statement}
@@ -11,10 +13,6 @@ pub temp1-spec : {M : Type 1} → statement M
 temp1-spec =
     tie.close
     (tie.spec
-    (λ c κs. search needs)
-    (λ c κs. search needs)
-    (λ c κs. search needs)
-    (λ c κs. search needs)
-    (λ c κs. search needs)
+    (λ c κs. search needs) (λ c κs. search needs) (λ c κs. search needs) (λ c κs. search needs) (λ c κs. search needs)
     (λ c κs. search needs)
     returns)

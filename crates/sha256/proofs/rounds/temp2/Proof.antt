@@ -1,3 +1,5 @@
+-- The standard's sum, from the calls' equations.
+-- Assumes nothing.
 use borrow.Author.Needs.{needs}
 use Rattle.sha256.specs.Fips180.{T2}
 use Rattle.sha256.proofs.rounds.temp2.Statement.{statement}
