@@ -1,3 +1,4 @@
+pub mod Bitwise
 pub mod DigestBytes
 pub mod MessageSchedule
 pub mod Padding
