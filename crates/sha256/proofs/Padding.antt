@@ -41,11 +41,13 @@ unfolding padded
 padded-short m h =
     let high : 8 * length m / 2 ^ 32 ≡ 0 = omega arith in
     let low : 8 * length m % 2 ^ 32 ≡ 8 * length m = omega arith in
-    let zeros = replicate {A = ℕ} (zeroBytes (length m)) 0 in
-    rw (high, low)
-    (ap (λ (r : List ℕ). ended m ++ r)
-    (sym (append-assoc zeros (replicate 4 0) (wordBytes (8 * length m)))
-    ∙ ap (λ (r : List ℕ). r ++ wordBytes (8 * length m)) (replicate-append-replicate (zeroBytes (length m)) 4 0)))
+    rw (high, low, ← append-assoc zeros fourZeros (wordBytes (8 * length m)), replicate-append-replicate)
+  where
+    zeros : List ℕ
+    zeros = replicate (zeroBytes (length m)) 0
+
+    fourZeros : List ℕ
+    fourZeros = replicate 4 0
 
 -- up to its last word the padded message is the message, the byte 0x80 and zeros
 padded-front : (m : List ℕ) (k : ℕ) → length m ≤ 65535 → k < front (length m) → getD (ended m) k 0 ≡ getD (padded m) k 0
@@ -53,13 +55,7 @@ padded-front m k h below =
     rw (padded-short m h)
     (⊎-elim
     (λ l. sym (List·getD-append (ended m) rest 0 k l))
-    (λ g.
-    let at : k ≡ length (ended m) + (k - length (ended m)) = omega arith in
-    List·getD-eq-default (ended m) 0 g
-    ∙ sym (ap (λ (n : ℕ). getD (ended m ++ rest) n 0) at
-    ∙ getD-append-add (ended m) rest (k - length (ended m)) 0
-    ∙ List·getD-append zeros (wordBytes (8 * length m)) 0 _ (simp length-replicate (omega (arith, length-append m (128 ∷ []))))
-    ∙ getD-replicate (zeroBytes (length m) + 4) (k - length (ended m)) 0 0 (omega (arith, length-append m (128 ∷ [])))))
+    (λ g. List·getD-eq-default (ended m) 0 g ∙ sym (behind g))
     (lt-or-le k (length (ended m))))
   where
     zeros : List ℕ
@@ -67,6 +63,22 @@ padded-front m k h below =
 
     rest : List ℕ
     rest = zeros ++ wordBytes (8 * length m)
+
+    past : ℕ
+    past = k - length (ended m)
+
+    within : past < zeroBytes (length m) + 4
+    within = omega (arith, length-append m (128 ∷ []))
+
+    split : length (ended m) ≤ k → k ≡ length (ended m) + past
+    split g = omega arith
+
+    behind : length (ended m) ≤ k → getD (ended m ++ rest) k 0 ≡ 0
+    behind g =
+        ap (λ (n : ℕ). getD (ended m ++ rest) n 0) (split g)
+        ∙ getD-append-add (ended m) rest past 0
+        ∙ List·getD-append zeros (wordBytes (8 * length m)) 0 past (simp length-replicate within)
+        ∙ getD-replicate (zeroBytes (length m) + 4) past 0 0 within
 
 -- the last word of the padded message is the length in bits
 padded-last : (m : List ℕ) → length m ≤ 65535 → wordAt (padded m) (front (length m)) ≡ length m * 8
