@@ -13,7 +13,7 @@ use Rattle.sha256.specs.Claims as claims
 use Rattle.sha256.specs.Fips180.{W, next, schedule, extend}
 use Rattle.sha256.specs.Window.{Kept}
 
-schedule-length : (M : List ℕ) (t : ℕ) → length (schedule M t) ≡ t
+pub schedule-length : (M : List ℕ) (t : ℕ) → length (schedule M t) ≡ t
 unfolding schedule
 schedule-length M zero = refl
 schedule-length M (suc t) = simp (length-append, schedule-length M t) (omega arith)

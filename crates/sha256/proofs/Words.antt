@@ -93,6 +93,11 @@ filled-all p j t w h f =
     (λ u below.
     ⊎-elim (f .made u) (λ above. f .blank u above ∙ sym (word-behind p (j + 4 * u) (omega arith))) (lt-or-le u t))
 
+infixr 30 _∷≡_
+-- lists are equal element by element
+pub _∷≡_ : {x y : ℕ} {xs ys : List ℕ} → x ≡ y → xs ≡ ys → x ∷ xs ≡ y ∷ ys
+e ∷≡ es = ap₂ _∷_ e es
+
 -- sixteen words, written out
 pub sixteen-words : (p : List ℕ) (j : ℕ)
     → wordsAt 16 p j

@@ -2,4 +2,5 @@ pub mod Answer
 pub mod Claims
 pub mod Fips180
 pub mod Rounds
+pub mod Store
 pub mod Window

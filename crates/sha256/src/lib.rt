@@ -1,6 +1,7 @@
 // SHA-256 of a message of 0 to 65,535 bytes.
 //
 // specs/Fips180.antt is FIPS 180-4, section by section; specs/Answer.antt is what a call answers.
+mod hash_value;
 mod message;
 mod rounds;
 mod schedule;
@@ -12,11 +13,11 @@ ghost use Prim.Native.Nat.{_≤_};
 ghost use lib.ListN.{length};
 ghost use Rattle.sha256.specs.Answer.{hashed};
 ghost use Rattle.sha256.specs.Fips180 as fips;
+use hash_value::digest_of;
+use hash_value::initial;
 use message::block;
 use message::block_count;
 use rounds::compress;
-use rounds::digest_of;
-use rounds::initial;
 
 // The answer to a message: number 0 and its digest, or the refusal 1 and zeros.
 pub struct Hashed {
@@ -51,8 +52,8 @@ pub fn sha256(message: &[u8]) -> Hashed
     }
 }
 
-// Internal: a message that is not too long.
-pub fn digest(message: &[u8]) -> [u8; 32]
+// A message that is not too long.
+fn digest(message: &[u8]) -> [u8; 32]
     requires { ⌜ length (now message) ≤ 65535 ⌝ }
     ensures { λ r. ⌜ r ≡ fips.sha256 (now (message .entry)) ⌝ }
 {

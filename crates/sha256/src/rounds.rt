@@ -15,22 +15,6 @@ use crate::word::big_sigma1;
 use crate::word::ch;
 use crate::word::maj;
 
-// H^(0)
-pub fn initial() -> State
-    ensures { λ r. ⌜ r ≡ fips.initial ⌝ }
-{
-    State {
-        a: 0x6a09e667,
-        b: 0xbb67ae85,
-        c: 0x3c6ef372,
-        d: 0xa54ff53a,
-        e: 0x510e527f,
-        f: 0x9b05688c,
-        g: 0x1f83d9ab,
-        h: 0x5be0cd19,
-    }
-}
-
 fn temp1(s: State, k: u32, w: u32) -> u32
     ensures { λ r. ⌜ r ≡ fips.T1 s k w ⌝ }
 {
@@ -188,44 +172,4 @@ pub fn compress(s: State, block: [u32; 16]) -> State
         g: add(s.g, v.g),
         h: add(s.h, v.h),
     }
-}
-
-// The bytes of the hash value.
-pub fn digest_of(s: State) -> [u8; 32]
-    ensures { λ r. ⌜ r ≡ fips.bytesOf (fips.hashWords s) ⌝ }
-{
-    [
-        (s.a / 16777216 % 256) as u8,
-        (s.a / 65536 % 256) as u8,
-        (s.a / 256 % 256) as u8,
-        (s.a % 256) as u8,
-        (s.b / 16777216 % 256) as u8,
-        (s.b / 65536 % 256) as u8,
-        (s.b / 256 % 256) as u8,
-        (s.b % 256) as u8,
-        (s.c / 16777216 % 256) as u8,
-        (s.c / 65536 % 256) as u8,
-        (s.c / 256 % 256) as u8,
-        (s.c % 256) as u8,
-        (s.d / 16777216 % 256) as u8,
-        (s.d / 65536 % 256) as u8,
-        (s.d / 256 % 256) as u8,
-        (s.d % 256) as u8,
-        (s.e / 16777216 % 256) as u8,
-        (s.e / 65536 % 256) as u8,
-        (s.e / 256 % 256) as u8,
-        (s.e % 256) as u8,
-        (s.f / 16777216 % 256) as u8,
-        (s.f / 65536 % 256) as u8,
-        (s.f / 256 % 256) as u8,
-        (s.f % 256) as u8,
-        (s.g / 16777216 % 256) as u8,
-        (s.g / 65536 % 256) as u8,
-        (s.g / 256 % 256) as u8,
-        (s.g % 256) as u8,
-        (s.h / 16777216 % 256) as u8,
-        (s.h / 65536 % 256) as u8,
-        (s.h / 256 % 256) as u8,
-        (s.h % 256) as u8,
-    ]
 }
