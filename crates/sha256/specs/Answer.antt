@@ -3,7 +3,8 @@ use mathlib.Core.List.{List, _∷_, _++_}
 use Prim.Native.Nat.{ℕ}
 use lib.Dec.{ltb}
 use lib.ListN.{length, replicate}
-use Rattle.sha256.specs.Fips180.{sha256, pick}
+use Rattle.sha256.specs.Fips180.{sha256}
+use Rattle.sha256.specs.Pick.{pick}
 use Rattle.sha256.specs.declared.Hashed.{Hashed}
 
 -- number 0 and the digest; over 65,535 bytes number 1 and 32 zero bytes

@@ -1,11 +1,11 @@
 -- SHA-256 as FIPS 180-4 defines it, in the standard's order; each definition names its section.
 -- A word is a number below 2^32, a byte a number below 256, a message a list of bytes.
-use mathlib.Core.Bool.{Bool, true, false}
 use mathlib.Core.List.{List, [], _∷_, _++_}
 use Prim.Native.Nat.{ℕ, zero, suc, _+_, _*_, _-_, _/_, _%_, _^_}
 use lib.Bits.{bitAnd, bitOr, bitXor}
 use lib.Dec.{ltb}
 use lib.ListN.{length, getD, replicate}
+use Rattle.sha256.specs.Pick.{pick}
 use Rattle.sha256.specs.declared.State.{State}
 
 -- 2.2.2 and 3.2: operations on words
@@ -133,10 +133,6 @@ initial = record {
 }
 
 -- 6.2.2: hash computation
-
-abbrev pub pick : {A : Type 0} → Bool → A → A → A
-pick true x y = x
-pick false x y = y
 
 -- step 1: the message schedule. W_t = M_t for t below 16, and σ1(W_{t−2}) + W_{t−7} + σ0(W_{t−15}) + W_{t−16} from there on.
 unfoldable pub extend : ℕ → ℕ → ℕ → ℕ → ℕ
