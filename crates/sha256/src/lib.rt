@@ -1,6 +1,7 @@
 // SHA-256 of a message of 0 to 65,535 bytes.
 //
 // specs/Fips180.antt is FIPS 180-4, section by section; specs/Answer.antt is what a call answers.
+// `sha256` is the public call; what `tagged` has is internal, for the crates above.
 mod hash_value;
 mod message;
 mod rounds;
@@ -37,6 +38,7 @@ pub struct State {
     pub h: u32,
 }
 
+// The digest of a message of at most 65,535 bytes. A longer one is refused with 1.
 pub fn sha256(message: &[u8]) -> Hashed
     ensures { λ r. ⌜ r ≡ hashed (now (message .entry)) ⌝ }
 {
@@ -52,7 +54,7 @@ pub fn sha256(message: &[u8]) -> Hashed
     }
 }
 
-// A message that is not too long.
+// The digest of a message that is not too long.
 fn digest(message: &[u8]) -> [u8; 32]
     requires { ⌜ length (now message) ≤ 65535 ⌝ }
     ensures { λ r. ⌜ r ≡ fips.sha256 (now (message .entry)) ⌝ }
