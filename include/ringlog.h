@@ -2,8 +2,8 @@
  * Falconyarn: a verified append-only log with a stratified hash tree.
  *
  * This is its C interface, for the phone, the ring's firmware and tests in any language. Link
- * libringlog_c.a (made by `rt staticlib ringlog_c`). The library has no state, takes no memory of
- * its own, calls no other library and is safe to call from any thread.
+ * libringlog_c.a (made by `rt staticlib ringlog_c`). The library keeps no state between calls,
+ * allocates nothing, and calls no other library, so it may be called from any thread.
  *
  * Every call is defined for any bytes and any lengths. It answers with a struct by value, and a call
  * that is refused writes nothing to the memory that it was lent. The one thing that is left to the
