@@ -13,7 +13,8 @@ fn join(a: u8, b: u8, c: u8, d: u8) -> u32
     (a as u32) * 16777216 + (b as u32) * 65536 + (c as u32) * 256 + (d as u32)
 }
 
-fn word(m: &[u8], j: usize) -> u32
+// The number in the four bytes from j on. Internal: they lie inside m.
+pub fn word(m: &[u8], j: usize) -> u32
     requires { ⌜ j + 4 ≤ length (now m) ⌝ }
     ensures { λ r. ⌜ r ≡ fips.wordAt (now (m .entry)) j ⌝ }
 {
