@@ -1,0 +1,76 @@
+-- Equal digests in two trees: the same values, or two inputs with one digest.
+-- Assumes nothing.
+use mathlib.Core.List.{List, []}
+use mathlib.Core.Logic.{_⊎_, inl, inr, ⊎-elim}
+use mathlib.Core.Path.{_≡_, sym}
+use Prim.Native.Nat.{ℕ, zero, suc, _-_, _<_}
+use native.Mathlib.Omega.{arith}
+use lib.ListN.{length, getD}
+use Rattle.sha256.specs.Fips180.{sha256}
+use Rattle.slate.specs.Address.{HasNode, input}
+use Rattle.slate.specs.Claims as claims
+use Rattle.slate.specs.Clash.{Clash, Same}
+use Rattle.slate.specs.Digits.{base, digit, left}
+use Rattle.slate.specs.Tree.{Rule, top}
+use Rattle.slate.proofs.Bits.{base-zero, left-base, left-lt, left-pred, no-left}
+use Rattle.slate.proofs.Cases.{by-digit, by-equal, by-order}
+use Rattle.slate.proofs.Lists.{append-inj}
+use Rattle.slate.proofs.Tops.{top-length}
+
+pub clash-sym : {pre : Rule} {vs ws : List (List ℕ)} → Clash pre vs ws → Clash pre ws vs
+clash-sym c =
+    record {
+      index = c .index;
+      height = c .height;
+      first = c .second;
+      second = c .first;
+      inputs = λ e. c .inputs (sym e);
+      digests = sym (c .digests);
+    }
+
+module _ (pre : Rule) (vs ws : List (List ℕ)) where
+  -- two inputs with one digest at the same place are a clash
+  clash-at : (x h : ℕ) → x < length vs → x < length ws → HasNode x h → (input pre vs x h ≡ input pre ws x h → ⊥)
+      → sha256 (input pre vs x h) ≡ sha256 (input pre ws x h) → Clash pre vs ws
+  clash-at x h lv lw n i d =
+      let e : suc x - 1 ≡ x = omega arith in
+      record {
+        index = suc x;
+        height = h;
+        first = record { low = omega arith; high = lv; node = rw e n };
+        second = record { low = omega arith; high = lw; node = rw e n };
+        inputs = rw e i;
+        digests = rw e d;
+      }
+
+  -- one input of two nodes: the same digests of their children
+  same-node : (x p : ℕ) → input pre vs x (suc p) ≡ input pre ws x (suc p)
+      → (top pre vs (left x p) p ≡ top pre ws (left x p) p) × (top pre vs x p ≡ top pre ws x p)
+  unfolding input
+  same-node x p e =
+      append-inj 32 (top pre vs (left x p) p) (top pre vs x p) (top pre ws (left x p) p) (top pre ws x p)
+      (top-length pre vs (left x p) p) (top-length pre ws (left x p) p) (cc)
+
+  -- a node's values are those of its children
+  join : (x p : ℕ) → digit x p ≡ 1 → Same (base (left x p) p) (suc (left x p)) vs ws ⊎ Clash pre vs ws
+      → Same (base x p) (suc x) vs ws ⊎ Clash pre vs ws → Same (base x (suc p)) (suc x) vs ws ⊎ Clash pre vs ws
+  join x p d (inr c) t = inr c
+  join x p d (inl s) (inr c) = inr c
+  join x p d (inl s) (inl t) =
+      inl (λ k a b. by-order k (base x p) (λ l. s k (omega (arith, left-base x p d)) (omega (arith, left-pred x p d))) (λ l. t k l b))
+
+-- one digest of the highest nodes of height at most h: the same values below them, or a clash
+pub tops-values : claims.EqualTops
+unfolding input top
+tops-values pre vs ws x zero lv lw e =
+    by-equal (getD vs x []) (getD ws x [])
+    (λ q. inl (λ k a b. let z : k ≡ x = omega (arith, base-zero x) in rw z q))
+    (λ n. inr (clash-at pre vs ws x 0 lv lw tt (λ i. n (cc)) e))
+tops-values pre vs ws x (suc p) lv lw e =
+    by-digit x p
+    (λ d. ⊎-elim (λ s. inl (λ k a b. s k (omega (arith, no-left x p d)) b)) inr (tops-values pre vs ws x p lv lw (rw d at e)))
+    (λ d. by-equal (input pre vs x (suc p)) (input pre ws x (suc p))
+    (λ q. join pre vs ws x p d
+    (tops-values pre vs ws (left x p) p (omega (arith, left-lt x p d)) (omega (arith, left-lt x p d)) (same-node pre vs ws x p q .0))
+    (tops-values pre vs ws x p lv lw (same-node pre vs ws x p q .1)))
+    (λ n. inr (clash-at pre vs ws x (suc p) lv lw d n (rw d at e))))

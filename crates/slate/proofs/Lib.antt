@@ -1,0 +1,15 @@
+pub mod Addresses
+pub mod Bench
+pub mod Bits
+pub mod Cases
+pub mod Clashes
+pub mod Comparisons
+pub mod Descent
+pub mod Formulas
+pub mod HighestBit
+pub mod Inclusion
+pub mod Lists
+pub mod Machine
+pub mod Outside
+pub mod PartialTree
+pub mod Tops

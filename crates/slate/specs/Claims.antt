@@ -1,0 +1,103 @@
+-- What is claimed of the tree's definitions: each claim is a type, and proofs/ has its proof.
+use mathlib.Core.List.{List, []}
+use mathlib.Core.Logic.{_⊎_}
+use mathlib.Core.Path.{_≡_}
+use Prim.Native.Nat.{ℕ, suc, _+_, _*_, _-_, _^_, _≤_, _<_, min}
+use lib.Count.{ones}
+use lib.ListN.{length, getD}
+use Rattle.slate.specs.Address.{HasNode, Present, digestOf, firstLeaf, hashInput, highest, leftChild, rightHeight}
+use Rattle.slate.specs.Clash.{Clash, Same}
+use Rattle.slate.specs.Comparison.{byLength, compared, differAt}
+use Rattle.slate.specs.Digits.{base, digit, maxHeight}
+use Rattle.slate.specs.Length.{entryLen}
+use Rattle.slate.specs.Moves.{hops, hopsFrom, lefts, leftsFrom, splitBit}
+use Rattle.slate.specs.Path.{fold, path}
+use Rattle.slate.specs.Tree.{Rule, leafInput, nodeInput, root, top}
+
+-- its length is 43 + value item + 70 times the number of ones in i − 1
+abbrev pub EntryLength : Type 0
+EntryLength = (n i : ℕ) → 1 ≤ i → i ≤ 2 ^ maxHeight → entryLen n (i - 1) ≡ 43 + n + 70 * ones (i - 1)
+
+-- ---- moves, for 1 ≤ i ≤ n ≤ 4,096
+
+-- j is the highest bit where n and i − 1 differ
+abbrev pub SplitBit : Type 0
+SplitBit =
+    (n i : ℕ) → 1 ≤ i → i ≤ n → n ≤ 2 ^ maxHeight
+    → (digit n (splitBit n i) ≡ digit (i - 1) (splitBit n i) → ⊥) × ((p : ℕ) → splitBit n i < p → digit n p ≡ digit (i - 1) p)
+
+-- the formulas count the moves of the recursion on the height
+abbrev pub HopsFormula : Type 0
+HopsFormula = (n i : ℕ) → 1 ≤ i → i ≤ n → n ≤ 2 ^ maxHeight → hops n i ≡ hopsFrom (n - 1) maxHeight (i - 1)
+
+abbrev pub LeftsFormula : Type 0
+LeftsFormula = (n i : ℕ) → 1 ≤ i → i ≤ n → n ≤ 2 ^ maxHeight → lefts n i ≡ leftsFrom (n - 1) maxHeight (i - 1)
+
+-- ---- addresses
+
+-- both children of a node are present where it is
+abbrev pub ChildrenPresent : Type 0
+ChildrenPresent = (m i p : ℕ) → Present m i (suc p) → Present m (leftChild i p) p × Present m i (rightHeight i p)
+
+-- the right child is the next lower height in the same entry
+abbrev pub RightChild : Type 0
+RightChild = (i p : ℕ) → (rightHeight i p ≤ p) × ((q : ℕ) → q ≤ p → HasNode (i - 1) q → q ≤ rightHeight i p)
+
+-- the first leaf under the node of height h in entry i stands at the position where its block begins
+abbrev pub FirstLeaf : Type 0
+FirstLeaf = (i h : ℕ) → firstLeaf i h ≡ suc (base (i - 1) h)
+
+-- a leaf hashes its prefix and its value
+abbrev pub LeafInput : Type 0
+LeafInput = (pre : Rule) (vs : List (List ℕ)) (i : ℕ) → hashInput pre vs i 0 ≡ leafInput pre (getD vs (i - 1) [])
+
+-- a node hashes its prefix and the digests of its two children
+abbrev pub NodeInput : Type 0
+NodeInput =
+    (pre : Rule) (vs : List (List ℕ)) (m i p : ℕ) → Present m i (suc p)
+    → hashInput pre vs i (suc p)
+    ≡ nodeInput pre (suc p) (digestOf pre vs (leftChild i p) p) (digestOf pre vs i (rightHeight i p))
+
+-- the root is the digest of the last entry's top node
+abbrev pub RootDigest : Type 0
+RootDigest =
+    (pre : Rule) (vs : List (List ℕ)) (x : ℕ) → length vs ≡ suc x → root pre vs ≡ digestOf pre vs (suc x) (highest x maxHeight)
+
+-- ---- tops and values
+
+-- a top depends on the values below it alone
+abbrev pub EqualValues : Type 0
+EqualValues =
+    (pre : Rule) (vs ws : List (List ℕ)) (x h : ℕ) → Same (base x h) (suc x) vs ws → top pre vs x h ≡ top pre ws x h
+
+-- equal tops give equal values below them, or a clash at an address of both
+abbrev pub EqualTops : Type 0
+EqualTops =
+    (pre : Rule) (vs ws : List (List ℕ)) (x h : ℕ) → x < length vs → x < length ws → top pre vs x h ≡ top pre ws x h
+    → Same (base x h) (suc x) vs ws ⊎ Clash pre vs ws
+
+-- ---- inclusion, for 1 ≤ i ≤ n ≤ 4,096
+
+-- a path has a digest of 32 bytes for each move
+abbrev pub PathLength : Type 0
+PathLength =
+    (pre : Rule) (vs : List (List ℕ)) (i : ℕ) → 1 ≤ i → i ≤ length vs → length vs ≤ 2 ^ maxHeight
+    → length (path pre vs i) ≡ 32 * hops (length vs) i
+
+-- value i folds with its path to the root
+abbrev pub FoldPath : Type 0
+FoldPath =
+    (pre : Rule) (vs : List (List ℕ)) (i : ℕ) → 1 ≤ i → i ≤ length vs → length vs ≤ 2 ^ maxHeight
+    → fold pre (length vs) i (getD vs (i - 1) []) (path pre vs i) ≡ root pre vs
+
+-- ---- the comparison names the first place of difference, or the verdict by the two lengths
+
+abbrev pub ComparedDiffer : Type 0
+ComparedDiffer =
+    (vs ws : List (List ℕ)) (k : ℕ) → k < length vs → k < length ws → Same 0 k vs ws → (getD vs k [] ≡ getD ws k [] → ⊥)
+    → compared vs ws ≡ record { common = k; verdict = differAt (suc k) }
+
+abbrev pub ComparedEqual : Type 0
+ComparedEqual =
+    (vs ws : List (List ℕ)) → Same 0 (min (length vs) (length ws)) vs ws
+    → compared vs ws ≡ record { common = min (length vs) (length ws); verdict = byLength (length vs) (length ws) }

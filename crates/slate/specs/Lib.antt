@@ -1,0 +1,11 @@
+pub mod Address
+pub mod BenchSheet
+pub mod Bytes
+pub mod Claims
+pub mod Clash
+pub mod Comparison
+pub mod Digits
+pub mod Length
+pub mod Moves
+pub mod Path
+pub mod Tree

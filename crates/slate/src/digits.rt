@@ -1,0 +1,43 @@
+// Binary digits of a position x = i - 1.
+ghost use mathlib.Core.Path.{_≡_};
+ghost use Prim.Native.Nat.{_<_, _≤_};
+ghost use Rattle.slate.specs.Digits as digits;
+
+// The greatest height of a node, and the greatest number of values.
+pub const MAX_HEIGHT: u32 = 12;
+
+pub const LIMIT: u32 = 4096;
+
+// Digit p of x.
+pub fn digit(x: u32, p: u32) -> u32
+    requires { ⌜ p < 32 ⌝ }
+    ensures { λ r. ⌜ r ≡ digits.digit x p ⌝ }
+{
+    (x >> p) % 2
+}
+
+// How many of the digits below h are set in x.
+pub fn ones_below(x: u32, h: u32) -> u32
+    requires { ⌜ h < 32 ⌝ }
+    ensures { λ r. ⌜ r ≡ digits.onesBelow x h ⌝ }
+    ensures { λ r. ⌜ r ≤ h ⌝ }
+{
+    u32::count_ones(x % (1 << h))
+}
+
+// The index of the left child of the node of height p + 1 at position x.
+pub fn base(x: u32, p: u32) -> u32
+    requires { ⌜ p < 32 ⌝ }
+    ensures { λ r. ⌜ r ≡ digits.base x p ⌝ }
+{
+    (x >> p) << p
+}
+
+// Its position.
+pub fn left(x: u32, p: u32) -> u32
+    requires { ⌜ p < 32 ⌝ }
+    requires { ⌜ digits.digit x p ≡ 1 ⌝ }
+    ensures { λ r. ⌜ r ≡ digits.left x p ⌝ }
+{
+    base(x, p) - 1
+}
