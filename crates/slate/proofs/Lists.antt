@@ -3,7 +3,8 @@
 use mathlib.Core.Bool.{true, false}
 use mathlib.Core.List.{List, [], _∷_, _++_}
 use mathlib.Core.Path.{_≡_, refl, sym, ap, _∙_}
-use Prim.Native.Nat.{ℕ, zero, suc, _+_, _≤_, _<_}
+use Prim.Native.Nat.{ℕ, zero, suc, _+_, _-_, _≤_, _<_}
+use native.Mathlib.Nat.{add-sub-cancel-left}
 use native.Mathlib.Omega.{arith}
 use borrow.Author.Tests.{eq-eqb, eqb-true}
 use lib.Dec.{eqb}
@@ -62,6 +63,11 @@ part-part b o n k m h = take-inside k m n (drop o b) h ∙ ap (take m) (drop-dro
 pub part-byte : (b : List ℕ) (o n k : ℕ) → k < n → getD (part b o n) k 0 ≡ getD b (o + k) 0
 unfolding part
 part-byte b o n k h = rw (getD-take n (drop o b) k 0 h) (getD-drop o b k 0)
+
+-- the bytes from o up to, not including, o + n
+pub part-slice : (b : List ℕ) (o n : ℕ) → take (o + n - o) (drop o b) ≡ part b o n
+unfolding part
+part-slice b o n = rw add-sub-cancel-left
 
 -- ---- two lists end to end
 

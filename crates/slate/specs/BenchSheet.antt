@@ -27,11 +27,11 @@ pub data Line : Type 0 where
   hopsAre : (n i h : ℕ) → Line
   tapsBegin : (m : ℕ) (begins : List ℕ) (end : ℕ) → Line
 
-abbrev pub Holds : Line → Type 0
-Holds (entryHas i ns) = nodes i ≡ ns
-Holds (hopsAndLefts n i h l) = (hops n i ≡ h) × (lefts n i ≡ l)
-Holds (hopsAre n i h) = hops n i ≡ h
-Holds (tapsBegin m begins end) = (offsets (taps m) m ≡ begins) × (offset (taps m) m ≡ end)
+abbrev pub LineHolds : Line → Type 0
+LineHolds (entryHas i ns) = nodes i ≡ ns
+LineHolds (hopsAndLefts n i h l) = (hops n i ≡ h) × (lefts n i ≡ l)
+LineHolds (hopsAre n i h) = hops n i ≡ h
+LineHolds (tapsBegin m begins end) = (offsets (taps m) m ≡ begins) × (offset (taps m) m ≡ end)
 
 abbrev pub sheet : List Line
 sheet =
@@ -52,4 +52,4 @@ Each P (l ∷ ls) = P l × Each P ls
 
 -- every line of the sheet holds for the written rules
 abbrev pub BenchSheet : Type 0
-BenchSheet = Each Holds sheet
+BenchSheet = Each LineHolds sheet

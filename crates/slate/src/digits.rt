@@ -8,7 +8,7 @@ pub const MAX_HEIGHT: u32 = 12;
 
 pub const LIMIT: u32 = 4096;
 
-// Digit p of x.
+// Digit p of x. Internal: p is below 32.
 pub fn digit(x: u32, p: u32) -> u32
     requires { ⌜ p < 32 ⌝ }
     ensures { λ r. ⌜ r ≡ digits.digit x p ⌝ }
@@ -16,7 +16,7 @@ pub fn digit(x: u32, p: u32) -> u32
     (x >> p) % 2
 }
 
-// How many of the digits below h are set in x.
+// How many of the digits below h are set in x. Internal: h is below 32.
 pub fn ones_below(x: u32, h: u32) -> u32
     requires { ⌜ h < 32 ⌝ }
     ensures { λ r. ⌜ r ≡ digits.onesBelow x h ⌝ }
@@ -25,7 +25,7 @@ pub fn ones_below(x: u32, h: u32) -> u32
     u32::count_ones(x % (1 << h))
 }
 
-// The index of the left child of the node of height p + 1 at position x.
+// The index of the left child of the node of height p + 1 at position x. Internal: p is below 32.
 pub fn base(x: u32, p: u32) -> u32
     requires { ⌜ p < 32 ⌝ }
     ensures { λ r. ⌜ r ≡ digits.base x p ⌝ }
@@ -33,7 +33,7 @@ pub fn base(x: u32, p: u32) -> u32
     (x >> p) << p
 }
 
-// Its position.
+// Its position. Internal: there is such a node.
 pub fn left(x: u32, p: u32) -> u32
     requires { ⌜ p < 32 ⌝ }
     requires { ⌜ digits.digit x p ≡ 1 ⌝ }

@@ -39,7 +39,7 @@ fn turn(n: u32, j: u32) -> u32
     (j != u32::trailing_zeros(n)) as u32
 }
 
-// All moves.
+// All moves. Internal: i is at least 1.
 pub fn hops(n: u32, i: u32) -> u32
     requires { ⌜ 1 ≤ i ⌝ }
     ensures { λ r. ⌜ r ≡ moves.hops n i ⌝ }
@@ -48,7 +48,7 @@ pub fn hops(n: u32, i: u32) -> u32
     u32::count_ones(n >> (j + 1)) + turn(n, j) + j
 }
 
-// Those that go left.
+// Those that go left. Internal: i is at least 1.
 pub fn lefts(n: u32, i: u32) -> u32
     requires { ⌜ 1 ≤ i ⌝ }
     ensures { λ r. ⌜ r ≡ moves.lefts n i ⌝ }

@@ -1,0 +1,10 @@
+pub mod Claims
+pub mod Kind
+pub mod Log
+pub mod Next
+pub mod Read
+pub mod Refusal
+pub mod Shape
+pub mod Walk
+pub mod Write
+pub mod Written
