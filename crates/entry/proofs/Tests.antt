@@ -1,12 +1,12 @@
 -- Lists of tests: one test out of those that all hold, and one that fails.
 -- Assumes nothing.
-use mathlib.Core.Bool.{Bool, true, false}
+use mathlib.Core.Bool.{Bool, true, false, Bool·beq}
 use mathlib.Core.List.{List, [], _∷_}
 use mathlib.Core.Path.{_≡_, refl}
 use Prim.Native.Nat.{ℕ, zero, suc}
 use lib.ListN.{getD}
 use Rattle.sha256.specs.Pick.{pick}
-use Rattle.entry.specs.Shape.{all, sameTest}
+use Rattle.entry.specs.Shape.{all}
 use Rattle.slate.proofs.Cases.{true-false}
 
 -- where all tests hold, each one holds
@@ -28,13 +28,7 @@ pub both-true : (s t : Bool) → pick s t false ≡ true → (s ≡ true) × (t 
 both-true true t h = (refl, h)
 both-true false t h = true-false h refl
 
--- two tests are the same where they have one value
-pub same-test : (s t : Bool) → sameTest s t ≡ true → s ≡ t
-same-test true true h = refl
-same-test true false h = true-false h refl
-same-test false true h = true-false h refl
-same-test false false h = refl
-
-pub test-same : (s t : Bool) → s ≡ t → sameTest s t ≡ true
+-- a test is the same as itself
+pub test-same : (s t : Bool) → s ≡ t → Bool·beq s t ≡ true
 test-same true t h = rw (← h)
 test-same false t h = rw (← h)

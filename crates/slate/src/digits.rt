@@ -6,7 +6,7 @@ ghost use Rattle.slate.specs.Digits as digits;
 // The greatest height of a node, and the greatest number of values.
 pub const MAX_HEIGHT: u32 = 12;
 
-pub const LIMIT: u32 = 4096;
+pub const LIMIT: u32 = 1 << MAX_HEIGHT;
 
 // Digit p of x. Internal: p is below 32.
 pub fn digit(x: u32, p: u32) -> u32
