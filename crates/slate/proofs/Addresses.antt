@@ -3,7 +3,6 @@
 use mathlib.Core.List.{List, []}
 use mathlib.Core.Path.{_≡_, refl, ap₂, _∙_}
 use Prim.Native.Nat.{ℕ, zero, suc, _-_, _^_, _≤_, _<_}
-use native.Mathlib.Numerals.{add-one}
 use native.Mathlib.Omega.{arith}
 use lib.ListN.{length, getD, length-append, List·getD-append}
 use lib.Pow.{pow-mono}
@@ -84,10 +83,6 @@ pub root-digest : claims.RootDigest
 root-digest pre vs x n =
     let e : suc x - 1 ≡ x = omega arith in
     rw e (root-top pre vs x n ∙ top-highest pre vs x maxHeight)
-
-pub first-leaf : claims.FirstLeaf
-unfolding base
-first-leaf i h = add-one (base (i - 1) h)
 
 -- ---- the list of an entry's nodes
 

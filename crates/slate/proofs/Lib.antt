@@ -8,6 +8,7 @@ pub mod Descent
 pub mod Formulas
 pub mod HighestBit
 pub mod Inclusion
+pub mod Leaves
 pub mod Lists
 pub mod Machine
 pub mod Outside

@@ -35,6 +35,11 @@ rightHeight i p = highest (i - 1) p
 abbrev pub firstLeaf : ℕ → ℕ → ℕ
 firstLeaf i h = (i - 1) / 2 ^ h * 2 ^ h + 1
 
+-- the positions of the leaves under the highest node of height at most h at position x, the left child's before the right child's
+unfoldable pub leavesFrom : ℕ → ℕ → List ℕ
+leavesFrom x zero = x ∷ []
+leavesFrom x (suc p) = ifSet (digit x p) (leavesFrom (left x p) p ++ leavesFrom x p) (leavesFrom x p)
+
 -- a node of an entry: its height, and its left child
 pub record Node : Type 0 where
   pub height : ℕ

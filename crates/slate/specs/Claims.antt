@@ -5,7 +5,7 @@ use mathlib.Core.Path.{_≡_}
 use Prim.Native.Nat.{ℕ, suc, _+_, _*_, _-_, _^_, _≤_, _<_, min}
 use lib.Count.{ones}
 use lib.ListN.{length, getD}
-use Rattle.slate.specs.Address.{HasNode, Present, digestOf, firstLeaf, hashInput, highest, leftChild, rightHeight}
+use Rattle.slate.specs.Address.{HasNode, Present, digestOf, firstLeaf, hashInput, highest, leavesFrom, leftChild, rightHeight}
 use Rattle.slate.specs.Clash.{Clash, Same}
 use Rattle.slate.specs.Comparison.{byLength, compared, differAt}
 use Rattle.slate.specs.Digits.{base, digit, maxHeight}
@@ -43,9 +43,12 @@ ChildrenPresent = (m i p : ℕ) → Present m i (suc p) → Present m (leftChild
 abbrev pub RightChild : Type 0
 RightChild = (i p : ℕ) → (rightHeight i p ≤ p) × ((q : ℕ) → q ≤ p → HasNode (i - 1) q → q ≤ rightHeight i p)
 
--- the first leaf under the node of height h in entry i stands at the position where its block begins
-abbrev pub FirstLeaf : Type 0
-FirstLeaf = (i h : ℕ) → firstLeaf i h ≡ suc (base (i - 1) h)
+-- the leaves under the node of height h in entry i are those from the first leaf to i
+abbrev pub LeavesUnder : Type 0
+LeavesUnder =
+    (i h : ℕ) → 1 ≤ i
+    → (length (leavesFrom (i - 1) h) ≡ suc i - firstLeaf i h)
+    × ((k : ℕ) → k < length (leavesFrom (i - 1) h) → suc (getD (leavesFrom (i - 1) h) k 0) ≡ firstLeaf i h + k)
 
 -- a leaf hashes its prefix and its value
 abbrev pub LeafInput : Type 0
