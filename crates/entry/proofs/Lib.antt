@@ -4,15 +4,15 @@ pub mod EntryNodes
 pub mod Equality
 pub mod FieldForms
 pub mod Fields
-pub mod Growth
 pub mod Items
 pub mod Lengths
 pub mod LogBytes
 pub mod LogDescent
 pub mod LogShape
 pub mod NextEntry
+pub mod NextForms
 pub mod Openings
-pub mod ShapeSteps
+pub mod ShapeForms
 pub mod Shaped
 pub mod Stands
 pub mod StepForms

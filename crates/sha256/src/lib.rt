@@ -1,7 +1,7 @@
 // SHA-256 of a message of 0 to 65,535 bytes.
 //
 // specs/Fips180.antt is FIPS 180-4, section by section; specs/Answer.antt is what a call answers.
-// `sha256` is the public call; `message::word` and what `tagged` has are internal, for the crates above.
+// `sha256` is the public call; what `message` and `tagged` have is internal, for the crates above.
 mod hash_value;
 pub mod message;
 mod rounds;

@@ -8,7 +8,7 @@ use lib.ListN.{length, getD, length-append, List·getD-append}
 use lib.Pow.{pow-mono}
 use lib.Seq.{getD-at}
 use Rattle.sha256.specs.Fips180.{sha256}
-use Rattle.slate.specs.Address.{HasNode, Node, Present, highest, input, leftChild, nodes, nodesBelow}
+use Rattle.slate.specs.Address.{HasNode, Node, highest, input, nodesBelow}
 use Rattle.slate.specs.Claims as claims
 use Rattle.slate.specs.Digits.{base, digit, left, maxHeight, onesBelow}
 use Rattle.slate.specs.Tree.{Rule, nodeInput, top}
@@ -138,13 +138,14 @@ listed-node x (suc p) k d lt =
     record { place = p; below = omega arith; set = s; rank = e; is = rw e at (node-listed x (suc p) p d (omega arith) s) }))
 
 -- the list is in rising height
-pub nodes-rise : (x h k l : ℕ) (d : Node) → k < l → l < length (nodesBelow x h)
-    → getD (nodesBelow x h) k d .height < getD (nodesBelow x h) l d .height
-nodes-rise x h k l d kl lt =
-    let r = listed-node x h k d (omega arith) in
-    let s = listed-node x h l d lt in
+pub nodes-rise : claims.NodesRise
+nodes-rise i k l d kl lt =
+    let r = listed-node (i - 1) maxHeight k d (omega arith) in
+    let s = listed-node (i - 1) maxHeight l d lt in
     rw (r .is, s .is)
-    (by-order (r .place) (s .place) (λ q. omega arith) (λ q. absurd (omega (arith, onesBelow-mono x (s .place) (r .place) q))))
+    (by-order (r .place) (s .place)
+    (λ q. omega arith)
+    (λ q. absurd (omega (arith, onesBelow-mono (i - 1) (s .place) (r .place) q))))
 
 -- a set digit of a number below 2 ^ h is below h
 pub set-below : (x h p : ℕ) → x < 2 ^ h → digit x p ≡ 1 → p < h
@@ -153,17 +154,13 @@ set-below x h p lt d =
     (λ l. let q : 2 ^ h ≤ 2 ^ p = pow-mono l in absurd (omega (arith, left-pos x p d, whole-base x p (omega arith))))
 
 -- the list of entry i has each node present there
-pub present-listed : (m i p : ℕ) (d : Node) → m ≤ 2 ^ maxHeight → Present m i (suc p)
-    → getD (nodes i) (onesBelow (i - 1) p) d ≡ record { height = suc p; leftIndex = leftChild i p; leftHeight = p }
+pub present-listed : claims.NodesListed
 unfolding base
 present-listed m i p d small w =
     node-listed (i - 1) maxHeight p d (set-below (i - 1) maxHeight p (omega (arith, w .low, w .high)) (w .node)) (w .node)
 
 -- the list of entry i has nodes present there only, each with its left child
-pub listed-present : (m i k : ℕ) (d : Node) → 1 ≤ i → i ≤ m → k < length (nodes i)
-    → Present m i (getD (nodes i) k d .height)
-    × (getD (nodes i) k d .height ≡ suc (getD (nodes i) k d .leftHeight))
-    × (getD (nodes i) k d .leftIndex ≡ leftChild i (getD (nodes i) k d .leftHeight))
+pub listed-present : claims.ListedNodes
 unfolding base
 listed-present m i k d low high lt =
     let r = listed-node (i - 1) maxHeight k d lt in

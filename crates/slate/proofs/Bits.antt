@@ -6,7 +6,7 @@ use Prim.Native.Nat.{ℕ, zero, suc, _+_, _*_, _-_, _/_, _%_, _^_, _≤_, _<_}
 use native.Mathlib.Decide.{le-ind}
 use native.Mathlib.Nat.{add-mul, div-add-mod', div-div-eq-div-mul, div-eq-of-lt, div-eq-of-lt-le, div-mul-le-self, div-one, eq-zero-or-pos, lt-div-mul-add, mod-eq-of-lt, mod-lt, mod-one, mul-one, pow-suc, pow-succ', suc-mul, zero-mul}
 use native.Mathlib.Omega.{arith}
-use lib.Arith.{digits-div, digits-mod, mod-mul}
+use lib.Arith.{mod-mul}
 use lib.Count.{ones, onesIn, ones-cat}
 use lib.Pow.{pow-pos}
 use Rattle.slate.specs.Digits.{base, digit, left, onesBelow}
@@ -62,17 +62,6 @@ no-left x p d = omega (arith, rw d at (base-step x p))
 pub left-pos : (x p : ℕ) → digit x p ≡ 1 → 0 < base x p
 left-pos x p d = omega (arith, left-end x p d, pow-pos p)
 
--- the last position of block q
-pred-split : (q p : ℕ) → suc q * 2 ^ p - 1 ≡ q * 2 ^ p + (2 ^ p - 1)
-pred-split q p = omega (arith, suc-mul q (2 ^ p), pow-pos p)
-
-pub base-pred : (q p : ℕ) → base (suc q * 2 ^ p - 1) p ≡ q * 2 ^ p
-unfolding base
-base-pred q p = rw (pred-split q p, digits-div q {m = 2 ^ p} {r = 2 ^ p - 1} (omega (arith, pow-pos p)))
-
-pub low-full : (q p : ℕ) → (suc q * 2 ^ p - 1) % 2 ^ p ≡ 2 ^ p - 1
-low-full q p = rw (pred-split q p) (digits-mod q (omega (arith, pow-pos p)))
-
 -- ---- the left child of the node of height p + 1 at position x
 
 -- the first half of the block of 2 ^ (p + 1)
@@ -104,30 +93,6 @@ left-present x p d =
     by-digit (left x (suc p)) p
     (λ z. absurd (omega (arith, left-pred x (suc p) d, left-end x (suc p) d, left-base x (suc p) d, no-left (left x (suc p)) p z, base-gt (left x (suc p)) p, pow-suc 2 p, pow-pos p)))
     (λ s. s)
-
--- ---- the leaf at t under the node of height p + 1 at position x, or under the highest node of height at most h
-
-quotient-same : (x h t : ℕ) → base x h ≤ t → t ≤ x → t / 2 ^ h ≡ x / 2 ^ h
-unfolding base
-quotient-same x h t low high = in-block (x / 2 ^ h) t h low (omega (arith, base-gt x h))
-
-pub block-same : (x h t : ℕ) → base x h ≤ t → t ≤ x → base t h ≡ base x h
-unfolding base
-block-same x h t low high = ap (λ (q : ℕ). q * 2 ^ h) (quotient-same x h t low high)
-
-digit-same : (x p t : ℕ) → base x p ≤ t → t ≤ x → digit t p ≡ digit x p
-unfolding digit
-digit-same x p t low high = ap (λ (q : ℕ). q % 2) (quotient-same x p t low high)
-
-pub leaf-none : (x p t : ℕ) → digit x p ≡ 0 → base x (suc p) ≤ t → t ≤ x → digit t p ≡ 0
-leaf-none x p t d low high = digit-same x p t (omega (arith, no-left x p d)) high ∙ d
-
-pub leaf-left : (x p t : ℕ) → digit x p ≡ 1 → base x (suc p) ≤ t → t < base x p → digit t p ≡ 0
-unfolding digit
-leaf-left x p t d low high = omega (arith, first-half x p t low (omega (arith, left-end x p d)))
-
-pub leaf-right : (x p t : ℕ) → digit x p ≡ 1 → base x p ≤ t → t ≤ x → digit t p ≡ 1
-leaf-right x p t d low high = digit-same x p t low high ∙ d
 
 -- left of the middle, t lies under the left child
 pub base-under : (x p t : ℕ) → digit x p ≡ 1 → base x (suc p) ≤ t → t < base x p → (base (left x p) p ≤ t) × (t ≤ left x p)

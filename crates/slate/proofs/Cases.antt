@@ -3,18 +3,15 @@
 use mathlib.Core.Bool.{Bool, true, false}
 use mathlib.Core.List.{List, List-discrete}
 use mathlib.Core.Logic.{_⊎_, inl, inr, ⊎-elim}
-use mathlib.Core.Path.{_≡_, refl}
+use mathlib.Core.Path.{_≡_, refl, _∙_}
 use Prim.Native.Nat.{ℕ, _/_, _%_, _^_, _≤_, _<_}
-use native.Mathlib.Decide.{decLt, ℕ-discrete}
+use native.Mathlib.Decide.{ℕ-discrete}
 use native.Mathlib.Omega.{arith}
+use Rattle.sha256.proofs.Words.{lt-or-le}
 use Rattle.slate.specs.Digits.{digit}
 
 pub by-order {ℓ} : {P : Type ℓ} (a b : ℕ) → (a < b → P) → (b ≤ a → P) → P
-by-order {P} a b f g = go (decLt a b)
-  where
-    go : Dec (a < b) → P
-    go (yes h) = f h
-    go (no n) = g (omega arith)
+by-order a b f g = ⊎-elim f g (lt-or-le a b)
 
 digit-cases : (x p : ℕ) → (digit x p ≡ 0) ⊎ (digit x p ≡ 1)
 unfolding digit
@@ -22,6 +19,10 @@ digit-cases x p = by-order (x / 2 ^ p % 2) 1 (λ h. inl (omega arith)) (λ h. in
 
 pub by-digit {ℓ} : {P : Type ℓ} (x p : ℕ) → (digit x p ≡ 0 → P) → (digit x p ≡ 1 → P) → P
 by-digit x p f g = ⊎-elim f g (digit-cases x p)
+
+-- a digit that is not 0 is 1
+pub digit-set : (x p r : ℕ) → r ≡ digit x p → (r ≡ 0 → ⊥) → digit x p ≡ 1
+digit-set x p r e n = by-digit x p (λ d. absurd (n (e ∙ d))) (λ d. d)
 
 pub by-bool {ℓ} : {P : Type ℓ} (b : Bool) → (b ≡ true → P) → (b ≡ false → P) → P
 by-bool true f g = f refl

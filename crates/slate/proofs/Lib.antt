@@ -3,6 +3,7 @@ pub mod Bench
 pub mod Bits
 pub mod Cases
 pub mod Clashes
+pub mod CodeForms
 pub mod Comparisons
 pub mod Descent
 pub mod Formulas
@@ -10,7 +11,6 @@ pub mod HighestBit
 pub mod Inclusion
 pub mod Leaves
 pub mod Lists
-pub mod Machine
 pub mod Outside
 pub mod PartialTree
 pub mod Tops

@@ -47,9 +47,6 @@ pub part-is : (p m r : List ℕ) (o n : ℕ) → length p ≡ o → length m ≡
 unfolding part
 part-is p m r o n l k = rw (drop-at p (m ++ r) o l) (take-at m r n k)
 
-pub part-at : (p m r : List ℕ) → part (p ++ (m ++ r)) (length p) (length m) ≡ m
-part-at p m r = part-is p m r (length p) (length m) refl refl
-
 take-inside : (k m n : ℕ) (l : List ℕ) → k + m ≤ n → take m (drop k (take n l)) ≡ take m (drop k l)
 take-inside zero m n l h = take-take m n l (omega arith)
 take-inside (suc k) m zero l h = absurd (omega arith)

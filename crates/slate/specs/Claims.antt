@@ -5,10 +5,10 @@ use mathlib.Core.Path.{_≡_}
 use Prim.Native.Nat.{ℕ, suc, _+_, _*_, _-_, _^_, _≤_, _<_, min}
 use lib.Count.{ones}
 use lib.ListN.{length, getD}
-use Rattle.slate.specs.Address.{HasNode, Present, digestOf, firstLeaf, hashInput, highest, leavesFrom, leftChild, rightHeight}
+use Rattle.slate.specs.Address.{HasNode, Node, Present, digestOf, firstLeaf, hashInput, highest, leavesFrom, leftChild, nodes, rightHeight}
 use Rattle.slate.specs.Clash.{Clash, Same}
 use Rattle.slate.specs.Comparison.{byLength, compared, differAt}
-use Rattle.slate.specs.Digits.{base, digit, maxHeight}
+use Rattle.slate.specs.Digits.{base, digit, maxHeight, onesBelow}
 use Rattle.slate.specs.Length.{entryLen}
 use Rattle.slate.specs.Moves.{hops, hopsFrom, lefts, leftsFrom, splitBit}
 use Rattle.slate.specs.Path.{fold, path}
@@ -34,6 +34,25 @@ abbrev pub LeftsFormula : Type 0
 LeftsFormula = (n i : ℕ) → 1 ≤ i → i ≤ n → n ≤ 2 ^ maxHeight → lefts n i ≡ leftsFrom (n - 1) maxHeight (i - 1)
 
 -- ---- addresses
+
+-- the list of the nodes of entry i has each node that is present, with its left child
+abbrev pub NodesListed : Type 0
+NodesListed =
+    (m i p : ℕ) (d : Node) → m ≤ 2 ^ maxHeight → Present m i (suc p)
+    → getD (nodes i) (onesBelow (i - 1) p) d ≡ record { height = suc p; leftIndex = leftChild i p; leftHeight = p }
+
+-- it has no others
+abbrev pub ListedNodes : Type 0
+ListedNodes =
+    (m i k : ℕ) (d : Node) → 1 ≤ i → i ≤ m → k < length (nodes i)
+    → Present m i (getD (nodes i) k d .height)
+    × (getD (nodes i) k d .height ≡ suc (getD (nodes i) k d .leftHeight))
+    × (getD (nodes i) k d .leftIndex ≡ leftChild i (getD (nodes i) k d .leftHeight))
+
+-- and they stand in rising height
+abbrev pub NodesRise : Type 0
+NodesRise =
+    (i k l : ℕ) (d : Node) → k < l → l < length (nodes i) → getD (nodes i) k d .height < getD (nodes i) l d .height
 
 -- both children of a node are present where it is
 abbrev pub ChildrenPresent : Type 0

@@ -4,7 +4,7 @@ use mathlib.Core.Path.{refl}
 use borrow.Author.Needs.{needs}
 use lib.Pow.{pow-pos}
 use Rattle.slate.proofs.Bits.{onesBelow-le, onesBelow-mod}
-use Rattle.slate.proofs.Machine.{shifted-one}
+use Rattle.slate.proofs.CodeForms.{shifted-one}
 use Rattle.slate.proofs.digits.ones_below.Statement.{statement}
 use Rattle.slate.proofs.digits.ones_below.Tie as tie
 

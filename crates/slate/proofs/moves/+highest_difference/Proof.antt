@@ -5,7 +5,7 @@ use Prim.Native.Nat.{ℕ, _<_}
 use native.Mathlib.Omega.{arith}
 use borrow.Fn.Kinds.{In}
 use borrow.Fn.PlainCycle.{Measures, is, falls, and}
-use Rattle.slate.proofs.Machine.{difference-below, difference-here, difference-none}
+use Rattle.slate.proofs.CodeForms.{difference-below, difference-here, difference-none}
 use Rattle.slate.proofs.digits.digit.Reads as digit
 use Rattle.slate.proofs.moves.highest_difference.Kinds as kinds
 use Rattle.slate.proofs.moves.highest_difference.Reads as reads

@@ -5,7 +5,7 @@ use native.Mathlib.Numerals.{add-one}
 use native.Mathlib.Omega.{arith}
 use borrow.Author.Needs.{needs}
 use Rattle.slate.specs.Moves.{hops}
-use Rattle.slate.proofs.Machine.{word-ones}
+use Rattle.slate.proofs.CodeForms.{word-ones}
 use Rattle.slate.proofs.moves.hops.Statement.{statement}
 use Rattle.slate.proofs.moves.hops.Tie as tie
 
