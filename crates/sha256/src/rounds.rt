@@ -3,8 +3,7 @@
 // The 64 rounds stand one below the other, each with its number and its constant, so that the
 // compiler keeps the words in registers and no table is read (docs/DECISIONS.md).
 ghost use mathlib.Core.Path.{_≡_};
-ghost use mathlib.Core.List.{List};
-ghost use Prim.Native.Nat.{ℕ, _+_, _≤_, _<_};
+ghost use Prim.Native.Nat.{_+_, _≤_, _<_};
 ghost use Rattle.sha256.specs.Fips180 as fips;
 ghost use Rattle.sha256.specs.Rounds.{Ran};
 use crate::State;

@@ -3,7 +3,7 @@
 use mathlib.Core.Path.{refl}
 use borrow.Author.Needs.{needs}
 use Rattle.sha256.specs.Fips180.{K, constants}
-use Rattle.sha256.proofs.RoundRuns.{After, none, _next_}
+use Rattle.sha256.proofs.RoundRuns.{none, _next_}
 use Rattle.sha256.proofs.rounds.rounds_0_to_15.Statement.{statement}
 use Rattle.sha256.proofs.rounds.rounds_0_to_15.Tie as tie
 
