@@ -1,4 +1,4 @@
-/* The C interface as a C program sees it: the layout of its struct, and known digests. */
+/* The C interface as a C program sees it: the layout of its structs, known digests, and a short log. */
 
 #include "ringlog.h"
 
@@ -33,12 +33,22 @@ static int is_digest(struct ringlog_digest result, const char *hex)
     return result.number == 0 && strcmp(text, hex) == 0;
 }
 
-/* Whether the result is number 1 with 32 zero bytes. */
-static int is_refusal(struct ringlog_digest result)
+/* Whether the result has this number, with 32 zero bytes. */
+static int is_zeros(struct ringlog_digest result, uint32_t number)
 {
     static const uint8_t zeros[32];
 
-    return result.number == 1 && memcmp(result.digest, zeros, sizeof zeros) == 0;
+    return result.number == number && memcmp(result.digest, zeros, sizeof zeros) == 0;
+}
+
+static int is_count(struct ringlog_count result, uint32_t number, uint64_t value)
+{
+    return result.number == number && result.value == value;
+}
+
+static int is_extent(struct ringlog_extent result, uint64_t entries, uint64_t bytes)
+{
+    return result.entries == entries && result.bytes == bytes;
 }
 
 static struct ringlog_digest digest_of(const char *text)
@@ -53,6 +63,12 @@ static void check_layout(void)
     check(offsetof(struct ringlog_digest, digest) == 4, "digest is at offset 4");
     check(sizeof((struct ringlog_digest){0}.number) == 4, "number has 4 bytes");
     check(sizeof((struct ringlog_digest){0}.digest) == 32, "digest has 32 bytes");
+    check(sizeof(struct ringlog_count) == 16, "struct ringlog_count has 16 bytes");
+    check(offsetof(struct ringlog_count, number) == 0, "its number is at offset 0");
+    check(offsetof(struct ringlog_count, value) == 8, "its value is at offset 8");
+    check(sizeof(struct ringlog_extent) == 16, "struct ringlog_extent has 16 bytes");
+    check(offsetof(struct ringlog_extent, entries) == 0, "its entries are at offset 0");
+    check(offsetof(struct ringlog_extent, bytes) == 8, "its bytes are at offset 8");
 }
 
 static void check_known_digests(void)
@@ -76,7 +92,57 @@ static void check_longest(void)
     check(is_digest(ringlog_sha256(message, LONGEST),
                     "6e1bebca6a8229364a162a72ef064826c4cd7457bf54f190ef782bd9deff3e42"),
           "65,535 times 'a' has its known digest");
-    check(is_refusal(ringlog_sha256(message, LONGEST + 1)), "65,536 bytes are refused");
+    check(is_zeros(ringlog_sha256(message, LONGEST + 1), 1), "65,536 bytes are refused");
+}
+
+static const uint8_t first_tap[9] = {0x10, 0, 0, 0, 0, 0, 0, 0, 1};
+static const uint8_t second_tap[9] = {0x10, 0, 0, 0, 0, 0, 0, 0, 2};
+
+static void check_log_of_two_taps(void)
+{
+    uint8_t buffer[52 + 122] = {0};
+
+    check(is_extent(ringlog_audit(buffer, 0), 0, 0), "no bytes are a log of no entries");
+    check(is_zeros(ringlog_root(buffer, 0), 0), "the root of an empty log is 32 zero bytes");
+    check(is_count(ringlog_append(buffer, sizeof buffer, 0, first_tap, 9), 0, 52),
+          "the first tap takes 52 bytes");
+    check(is_digest(ringlog_root(buffer, 52),
+                    "31cf8e61894d648e857cc6d14f8352c20c14d12f92a5f8dce26f01224a63376d"),
+          "the root of one tap is its leaf digest");
+    check(is_count(ringlog_append(buffer, sizeof buffer, 52, second_tap, 9), 0, 174),
+          "the second tap takes 122 bytes");
+    check(is_digest(ringlog_root(buffer, 174),
+                    "c13ddaafdc82a50191374f1d2a4cdb72cb575a2e8990dd3b69bc0dd6a82e19c9"),
+          "the root of two taps is their node's digest");
+    check(is_extent(ringlog_audit(buffer, 174), 2, 174), "the log of two taps counts in full");
+    check(is_extent(ringlog_audit(buffer, 173), 1, 52), "a torn second tap does not count");
+    buffer[0] ^= 1;
+    check(is_extent(ringlog_audit(buffer, 174), 0, 0), "nothing counts from a bent byte on");
+}
+
+static void check_stray_bytes(void)
+{
+    uint8_t buffer[55] = {0};
+
+    ringlog_append(buffer, sizeof buffer, 0, first_tap, 9);
+    check(is_extent(ringlog_audit(buffer, 55), 1, 52),
+          "one tap and three stray bytes are 1 entry in 52 bytes");
+    check(is_zeros(ringlog_root(buffer, 55), 6), "they do not open: the root is refused with 6");
+}
+
+static void check_refused_appends(void)
+{
+    static const uint8_t leaf[33] = {0x20};
+    static const uint8_t zeros[52];
+    uint8_t buffer[52] = {0};
+
+    check(is_count(ringlog_append(buffer, 51, 52, leaf, 33), 1, 0), "used above the buffer is 1");
+    check(is_count(ringlog_append(buffer, 51, 51, leaf, 33), 3, 0), "no value item is 3");
+    check(is_count(ringlog_append(buffer, 51, 51, first_tap, 8), 3, 0), "a byte short is 3");
+    check(is_count(ringlog_append(buffer, 51, 51, first_tap, 9), 6, 0), "what does not open is 6");
+    check(is_count(ringlog_append(buffer, 51, 0, first_tap, 9), 5, 0), "a tap into 51 bytes is 5");
+    check(memcmp(buffer, zeros, sizeof zeros) == 0, "a refused append writes nothing");
+    check(is_count(ringlog_append(buffer, 52, 0, first_tap, 9), 0, 52), "a tap into 52 bytes works");
 }
 
 int main(void)
@@ -84,6 +150,9 @@ int main(void)
     check_layout();
     check_known_digests();
     check_longest();
+    check_log_of_two_taps();
+    check_stray_bytes();
+    check_refused_appends();
     printf("%d passed, %d failed\n", passed, failed);
     return failed == 0 ? 0 : 1;
 }

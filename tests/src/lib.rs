@@ -1,11 +1,24 @@
-//! What the tests stand on: the model that the library is held to, the library behind a safe
-//! wrapper, repeatable random bytes, and very long messages.
+//! What the tests and the benchmark stand on: the model that the library is held to, the library
+//! behind safe wrappers, the plain Rust that it is measured beside, values and logs to try,
+//! what is refused, repeatable random bytes, very long messages, and a clock.
 
+/// Document 01 in plain Rust, made to be seen right and not to be fast.
 pub mod model {
+    mod calls;
+    pub mod entry;
+    pub mod item;
+    mod log;
     mod sha256;
+    pub mod tree;
+    pub use calls::{append, root};
+    pub use log::{audit, Log};
     pub use sha256::sha256;
 }
 
+pub mod logs;
 pub mod pages;
+pub mod plain;
+pub mod processor;
 pub mod random;
+pub mod refused;
 pub mod ringlog;

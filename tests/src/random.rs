@@ -34,4 +34,10 @@ impl Random {
         self.fill(&mut bytes);
         bytes
     }
+
+    pub fn digest(&mut self) -> [u8; 32] {
+        let mut digest = [0; 32];
+        self.fill(&mut digest);
+        digest
+    }
 }

@@ -8,12 +8,82 @@ pub struct Digest {
     pub digest: [u8; 32],
 }
 
-extern "C" {
-    fn ringlog_sha256(message: *const u8, message_len: usize) -> Digest;
+/// `struct ringlog_count`: number 0 and the value, or the number of a refusal and value 0.
+#[repr(C)]
+#[derive(Clone, Copy, Debug, PartialEq, Eq)]
+pub struct Count {
+    pub number: u32,
+    pub value: u64,
 }
 
+/// `struct ringlog_extent`
+#[repr(C)]
+#[derive(Clone, Copy, Debug, PartialEq, Eq)]
+pub struct Extent {
+    pub entries: u64,
+    pub bytes: u64,
+}
+
+/// A digest or a refusal, as the library answers it.
+impl From<Result<[u8; 32], u32>> for Digest {
+    fn from(answer: Result<[u8; 32], u32>) -> Self {
+        Digest {
+            number: answer.err().unwrap_or(0),
+            digest: answer.unwrap_or([0; 32]),
+        }
+    }
+}
+
+/// A count or a refusal, as the library answers it.
+impl From<Result<usize, u32>> for Count {
+    fn from(answer: Result<usize, u32>) -> Self {
+        Count {
+            number: answer.err().unwrap_or(0),
+            value: answer.unwrap_or(0) as u64,
+        }
+    }
+}
+
+/// Entries and bytes, as the library answers them.
+impl From<(usize, usize)> for Extent {
+    fn from((entries, bytes): (usize, usize)) -> Self {
+        Extent {
+            entries: entries as u64,
+            bytes: bytes as u64,
+        }
+    }
+}
+
+extern "C" {
+    fn ringlog_sha256(message: *const u8, message_len: usize) -> Digest;
+    fn ringlog_append(
+        buffer: *mut u8,
+        buffer_len: usize,
+        used: usize,
+        item: *const u8,
+        item_len: usize,
+    ) -> Count;
+    fn ringlog_audit(bytes: *const u8, bytes_len: usize) -> Extent;
+    fn ringlog_root(log: *const u8, log_len: usize) -> Digest;
+}
+
+// SAFETY, of each call below: a slice's pointer is not null, also for an empty slice, and is good
+// for reading as many bytes as the slice has for as long as the call lasts; that of a mutable
+// slice is good for writing too, and no other slice overlaps it.
+
 pub fn sha256(message: &[u8]) -> Digest {
-    // SAFETY: the pointer is not null, also for an empty slice, and is good for reading
-    // message.len() bytes for as long as the call lasts.
     unsafe { ringlog_sha256(message.as_ptr(), message.len()) }
+}
+
+pub fn append(buffer: &mut [u8], used: usize, item: &[u8]) -> Count {
+    let (start, len) = (buffer.as_mut_ptr(), buffer.len());
+    unsafe { ringlog_append(start, len, used, item.as_ptr(), item.len()) }
+}
+
+pub fn audit(bytes: &[u8]) -> Extent {
+    unsafe { ringlog_audit(bytes.as_ptr(), bytes.len()) }
+}
+
+pub fn root(log: &[u8]) -> Digest {
+    unsafe { ringlog_root(log.as_ptr(), log.len()) }
 }

@@ -1,56 +1,139 @@
-//! How long the library and the model take for a digest, measured in turn in one process.
+//! How long the library and plain Rust take for digests, audits and an append, measured in turn in
+//! one process, on warm buffers. The time is the processor's: an audit of a long log takes longer
+//! than the system lets a process run at a stretch where others want the machine.
 //!
 //! From the folder tests/: `cargo run --release --bin bench`
 
 use ringlog_tests::random::Random;
-use ringlog_tests::{model, ringlog};
-use std::time::Instant;
-
-/// The lengths of the messages, and how many calls make up a batch.
-const SIZES: [(usize, u32); 4] = [(9, 100), (50, 100), (65, 50), (65_535, 1)];
+use ringlog_tests::{logs, model, plain, processor, ringlog};
+use std::fmt::Debug;
 
 const ROUNDS: usize = 1_500;
 
-/// One message, and the nanoseconds per call of each batch so far.
-struct Row {
-    message: Vec<u8>,
-    calls: u32,
-    library: Vec<f64>,
-    model: Vec<f64>,
+/// The message whose time gives that of one compression, and how many compressions it takes.
+const LONG_MESSAGE: (usize, u32) = (65_535, 1_025);
+
+/// One of the two that are measured: a call, and the nanoseconds per call of each batch so far.
+struct Side {
+    call: Box<dyn FnMut()>,
+    times: Vec<f64>,
 }
 
-impl Row {
-    fn new(message: Vec<u8>, calls: u32) -> Self {
-        assert_eq!(ringlog::sha256(&message).digest, model::sha256(&message));
-        Row {
-            message,
-            calls,
-            library: Vec::new(),
-            model: Vec::new(),
+impl Side {
+    fn new<A: Copy>(mut call: impl FnMut() -> A + 'static) -> Self {
+        Side {
+            call: Box::new(move || {
+                black_box(call());
+            }),
+            times: Vec::new(),
         }
     }
 
-    fn run_library(&mut self) {
-        let time = nanoseconds_per_call(self.calls, &self.message, ringlog::sha256);
-        self.library.push(time);
+    fn run(&mut self, calls: u32) {
+        let start = processor::nanoseconds();
+        for _ in 0..calls {
+            (self.call)();
+        }
+        let time = processor::nanoseconds() - start;
+        self.times.push(time as f64 / f64::from(calls));
+    }
+}
+
+/// One thing to do, by the library and by plain Rust.
+struct Row {
+    name: String,
+    /// How many calls make up a batch.
+    calls: u32,
+    /// It has a batch in each so many rounds.
+    every: usize,
+    library: Side,
+    plain: Side,
+}
+
+impl Row {
+    /// The two give the same answer.
+    fn new<A: Copy + PartialEq + Debug>(
+        name: &str,
+        (calls, every): (u32, usize),
+        mut library: impl FnMut() -> A + 'static,
+        mut plain: impl FnMut() -> A + 'static,
+    ) -> Self {
+        assert_eq!(library(), plain(), "{name}");
+        Row {
+            name: name.to_string(),
+            calls,
+            every,
+            library: Side::new(library),
+            plain: Side::new(plain),
+        }
     }
 
-    fn run_model(&mut self) {
-        let time = nanoseconds_per_call(self.calls, &self.message, model::sha256);
-        self.model.push(time);
+    fn sha256(len: usize, calls: u32) -> Self {
+        let message = Random::new(1).bytes(len);
+        let again = message.clone();
+        Row::new(
+            &format!("sha256 of {len} bytes"),
+            (calls, 1),
+            move || ringlog::sha256(black_box(&message)),
+            move || Ok(model::sha256(black_box(&again))).into(),
+        )
+    }
+
+    fn audit(taps: usize, batch: (u32, usize)) -> Self {
+        let log = logs::taps(taps, &mut Random::new(2)).bytes().to_vec();
+        let again = log.clone();
+        let plural = if taps == 1 { "" } else { "s" };
+        Row::new(
+            &format!("audit of {taps} tap{plural}"),
+            batch,
+            move || ringlog::audit(black_box(&log)),
+            move || plain::audit(black_box(&again)).into(),
+        )
+    }
+
+    /// The same append again and again: it writes the same bytes behind the same log.
+    fn append(taps: usize, calls: u32) -> Self {
+        let mut random = Random::new(3);
+        let log = logs::taps(taps, &mut random);
+        let tap: [u8; 9] = logs::tap(&mut random).try_into().expect("a tap");
+        let used = log.bytes().len();
+        let mut buffer = [log.bytes(), &[0; logs::LONGEST_ENTRY]].concat();
+        let mut again = buffer.clone();
+        Row::new(
+            &format!("append to {taps} taps"),
+            (calls, 1),
+            move || ringlog::append(&mut buffer, black_box(used), &black_box(tap)),
+            move || plain::append(&mut again, black_box(used), &black_box(tap)).into(),
+        )
+    }
+
+    fn run(&mut self, round: usize) {
+        if round % self.every != 0 {
+            return;
+        }
+        let batch = round / self.every;
+        if batch % 2 == 0 {
+            self.library.run(self.calls);
+            self.plain.run(self.calls);
+        } else {
+            self.plain.run(self.calls);
+            self.library.run(self.calls);
+        }
     }
 
     fn print(&self) {
-        self.print_line("median", median(&self.library), median(&self.model));
-        self.print_line("minimum", minimum(&self.library), minimum(&self.model));
-    }
-
-    fn print_line(&self, what: &str, library: f64, model: f64) {
-        let size = self.message.len();
-        let ratio = library / model;
-        println!("{size:>6}  {what:<7}  {library:>12.1}  {model:>12.1}  {ratio:>13.3}");
+        for (what, of) in STATISTICS {
+            let (library, plain) = (of(&self.library.times), of(&self.plain.times));
+            let ratio = library / plain;
+            let name = &self.name;
+            println!("{name:<22}  {what:<7}  {library:>12.1}  {plain:>12.1}  {ratio:>13.3}");
+        }
     }
 }
+
+type Statistic = fn(&[f64]) -> f64;
+
+const STATISTICS: [(&str, Statistic); 2] = [("median", median), ("minimum", minimum)];
 
 fn median(times: &[f64]) -> f64 {
     let mut sorted = times.to_vec();
@@ -69,30 +152,49 @@ fn black_box<T: Copy>(value: T) -> T {
     unsafe { std::ptr::read_volatile(&value) }
 }
 
-fn nanoseconds_per_call<R: Copy>(calls: u32, message: &[u8], hash: impl Fn(&[u8]) -> R) -> f64 {
-    let start = Instant::now();
-    for _ in 0..calls {
-        black_box(hash(black_box(message)));
-    }
-    start.elapsed().as_nanos() as f64 / f64::from(calls)
+/// The compressions in an audit of so many taps: one a leaf, two a node.
+fn compressions(taps: usize) -> u32 {
+    (0..taps).map(|x| 1 + 2 * x.count_ones()).sum()
 }
 
-/// Every round has a batch of the library and one of the model for each message, and each of the
-/// two goes first in every other round: what else the machine does meets all of them alike.
-fn main() {
-    let mut random = Random::new(1);
-    let mut rows = SIZES.map(|(size, calls)| Row::new(random.bytes(size), calls));
-    for round in 0..ROUNDS {
-        for row in &mut rows {
-            if round % 2 == 0 {
-                row.run_library();
-                row.run_model();
-            } else {
-                row.run_model();
-                row.run_library();
-            }
-        }
+/// How much longer an audit takes than its compressions alone, whose time is that of the long
+/// message's.
+fn print_beside_compressions(audit: &Row, taps: usize, long_message: &Row) {
+    let count = compressions(taps);
+    for (what, of) in STATISTICS {
+        let ratio = |audit: &Side, message: &Side| {
+            let compression = of(&message.times) / f64::from(LONG_MESSAGE.1);
+            of(&audit.times) / (f64::from(count) * compression)
+        };
+        let library = ratio(&audit.library, &long_message.library);
+        let plain = ratio(&audit.plain, &long_message.plain);
+        let name = &audit.name;
+        println!("{name:<22}  {what:<7}  {library:>12.3}  {plain:>12.3}  {count:>13}");
     }
-    println!(" bytes  ns/call       library         model  library/model");
+}
+
+/// Every round has a batch of the library and one of plain Rust for each row, and each of the two
+/// goes first in every other batch: what else the machine does meets all of them alike.
+fn main() {
+    let mut rows = [
+        Row::sha256(9, 100),
+        Row::sha256(50, 100),
+        Row::sha256(65, 50),
+        Row::sha256(LONG_MESSAGE.0, 1),
+        Row::audit(1, (100, 1)),
+        Row::audit(4_095, (1, 15)),
+        Row::append(4_095, 10),
+    ];
+    for round in 0..ROUNDS {
+        rows.iter_mut().for_each(|row| row.run(round));
+    }
+    println!("ns/call                              library         plain  library/plain");
     rows.iter().for_each(Row::print);
+    let (bytes, count) = LONG_MESSAGE;
+    println!();
+    println!("time / time of the compressions alone, one of them taken as 1/{count} of");
+    println!("sha256 of {bytes} bytes                library         plain   compressions");
+    let [_, _, _, long_message, audit_1, audit_4095, _] = &rows;
+    print_beside_compressions(audit_1, 1, long_message);
+    print_beside_compressions(audit_4095, 4_095, long_message);
 }

@@ -1,0 +1,163 @@
+/*
+ * The stack that each call of the library takes: the call runs on a stack of its own that was
+ * painted before, and the bytes that still have their paint from the far end on were not taken.
+ */
+
+#define _XOPEN_SOURCE 600
+
+#include "ringlog.h"
+
+#include <stddef.h>
+#include <stdint.h>
+#include <stdio.h>
+#include <string.h>
+#include <ucontext.h>
+
+#define LIMIT 8192
+#define STACK (1 << 20)
+
+#define LONGEST_MESSAGE 65535
+#define TAPS 4096
+#define TAP 9
+
+/* 52 bytes a tap, and 70 for each of the 12 * 2,048 ones in 0 .. 4,095. */
+#define LOG (TAPS * 52 + 12 * 2048 * 70)
+
+static int passed;
+static int failed;
+
+static _Alignas(16) uint8_t stack[STACK];
+static ucontext_t here;
+static ucontext_t there;
+
+static void check(int holds, const char *sentence)
+{
+    if (holds) {
+        passed++;
+    } else {
+        failed++;
+        printf("FAILED: %s\n", sentence);
+    }
+}
+
+/* The paint, which differs from byte to byte so that no run of equal bytes looks like it. */
+static uint8_t paint(size_t at)
+{
+    return (uint8_t)(at * 151 + (at >> 8) * 29 + 77);
+}
+
+/* How many bytes of the stack the function takes, with what it takes to get there. The stack is
+   used from its end to its start. */
+static size_t depth(void (*function)(void))
+{
+    size_t untouched = 0;
+
+    for (size_t at = 0; at < STACK; at++) {
+        stack[at] = paint(at);
+    }
+    getcontext(&there);
+    there.uc_stack.ss_sp = stack;
+    there.uc_stack.ss_size = STACK;
+    there.uc_link = &here;
+    makecontext(&there, function, 0);
+    swapcontext(&here, &there);
+    while (untouched < STACK && stack[untouched] == paint(untouched)) {
+        untouched++;
+    }
+    return STACK - untouched;
+}
+
+/* The memory that the calls are lent, and their answers, are not on the stack that is measured. */
+static uint8_t message[LONGEST_MESSAGE];
+static uint8_t buffer[LOG];
+static size_t used;
+static uint8_t tap[TAP] = {0x10, 1, 2, 3, 4, 5, 6, 7, 8};
+static struct ringlog_digest digest;
+static struct ringlog_count count;
+static struct ringlog_extent extent;
+
+static void call_nothing(void)
+{
+}
+
+static void call_sha256(void)
+{
+    digest = ringlog_sha256(message, sizeof message);
+}
+
+static void call_append(void)
+{
+    count = ringlog_append(buffer, sizeof buffer, used, tap, sizeof tap);
+}
+
+static void call_audit(void)
+{
+    extent = ringlog_audit(buffer, used);
+}
+
+static void call_root(void)
+{
+    digest = ringlog_root(buffer, used);
+}
+
+/* A function that is known to take more than the limit. */
+static void call_deep(void)
+{
+    volatile uint8_t bytes[2 * LIMIT];
+
+    for (size_t at = 0; at < sizeof bytes; at++) {
+        bytes[at] = 0;
+    }
+}
+
+/* What the call takes beyond an empty function, in a line, and held to the limit. The call before it
+   leaves no work to the linker. */
+static void measure(const char *name, void (*call)(void))
+{
+    char sentence[100];
+    size_t taken;
+
+    call();
+    taken = depth(call) - depth(call_nothing);
+    printf("%6zu bytes of stack: %s\n", taken, name);
+    snprintf(sentence, sizeof sentence, "%s takes less than %d bytes of stack", name, LIMIT);
+    check(taken < LIMIT, sentence);
+}
+
+/* Whether so many taps more are appended. */
+static int append_taps(int taps)
+{
+    for (int i = 0; i < taps; i++) {
+        call_append();
+        if (count.number != 0) {
+            return 0;
+        }
+        used = (size_t)count.value;
+    }
+    return 1;
+}
+
+/* The next entry has 11 nodes behind 2,047 taps, and 12 behind 4,095. */
+static void measure_log_calls(void)
+{
+    check(append_taps(2047), "2,047 taps are appended");
+    measure("append of a tap to 2,047 taps", call_append);
+    check(count.number == 0, "that append is answered");
+    check(append_taps(2048), "2,048 taps more are appended");
+    measure("append of a tap to 4,095 taps", call_append);
+    check(count.number == 0 && count.value == LOG, "that append is answered");
+    measure("audit of 4,095 taps", call_audit);
+    check(extent.entries == 4095 && extent.bytes == used, "that audit counts 4,095 taps");
+    measure("root of 4,095 taps", call_root);
+    check(digest.number == 0, "that root is answered");
+}
+
+int main(void)
+{
+    check(depth(call_deep) >= 2 * LIMIT, "a function that takes much stack is seen to do so");
+    measure("sha256 of 65,535 bytes", call_sha256);
+    check(digest.number == 0, "that digest is answered");
+    measure_log_calls();
+    printf("%d passed, %d failed\n", passed, failed);
+    return failed == 0 ? 0 : 1;
+}

@@ -1,0 +1,76 @@
+//! Values and logs to try: well-formed logs, and forged ones that open.
+
+use crate::model::entry::{Entry, Node};
+use crate::model::item::{body_len, TAP, TICKET, VALUES};
+use crate::model::tree::heights;
+use crate::model::Log;
+use crate::random::Random;
+
+/// The length of the longest entry: a ticket with a node of each height from 1 to 12.
+pub const LONGEST_ENTRY: usize = 932;
+
+/// The length of a log of 4,096 tickets.
+pub const LONGEST_LOG: usize = 2_097_152;
+
+/// What a byte is bent with: each bit alone, and all of them.
+pub const MASKS: [u8; 9] = [0x01, 0x02, 0x04, 0x08, 0x10, 0x20, 0x40, 0x80, 0xff];
+
+/// A value item of this kind with a random body.
+pub fn value_of(kind: u8, random: &mut Random) -> Vec<u8> {
+    let body = random.bytes(body_len(kind).expect("a kind"));
+    [&[kind][..], &body].concat()
+}
+
+/// A tap with a random body.
+pub fn tap(random: &mut Random) -> Vec<u8> {
+    value_of(TAP, random)
+}
+
+/// A value item of a random kind with a random body.
+pub fn value(random: &mut Random) -> Vec<u8> {
+    value_of(VALUES[random.up_to(2)], random)
+}
+
+/// The log of `count` random values of mixed kinds.
+pub fn log(count: usize, random: &mut Random) -> Log {
+    let values: Vec<_> = (0..count).map(|_| value(random)).collect();
+    Log::of(&values)
+}
+
+/// The log of `count` random taps.
+pub fn taps(count: usize, random: &mut Random) -> Log {
+    let values: Vec<_> = (0..count).map(|_| tap(random)).collect();
+    Log::of(&values)
+}
+
+/// The log of `count` random tickets.
+pub fn tickets(count: usize, random: &mut Random) -> Log {
+    let values: Vec<_> = (0..count).map(|_| value_of(TICKET, random)).collect();
+    Log::of(&values)
+}
+
+/// An entry of this index with a random value, random digests and random left offsets below its own.
+fn forged_entry(index: usize, offset: usize, random: &mut Random) -> Entry {
+    Entry {
+        index,
+        value: value(random),
+        leaf: random.digest(),
+        nodes: heights(index)
+            .into_iter()
+            .map(|height| Node {
+                height,
+                left_offset: random.up_to(offset.max(1) - 1),
+                left: random.digest(),
+                own: random.digest(),
+            })
+            .collect(),
+    }
+}
+
+/// Random bytes up to the offset, and then a forged entry. They open wherever an entry of this index
+/// can be at this offset.
+pub fn forged(index: usize, offset: usize, random: &mut Random) -> Vec<u8> {
+    let mut bytes = random.bytes(offset);
+    bytes.extend(forged_entry(index, offset, random).bytes());
+    bytes
+}

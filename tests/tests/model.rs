@@ -1,0 +1,161 @@
+//! The model against document 01's bench sheet, trees written out by hand, and digests from outside
+//! this project.
+
+use ringlog_tests::model::entry::last_entry;
+use ringlog_tests::model::item::{is_value, VALUES};
+use ringlog_tests::model::tree::{
+    heights, leaf_digest, left_child, node_digest, right_child, Tree,
+};
+use ringlog_tests::model::{self, Log};
+use ringlog_tests::random::Random;
+use ringlog_tests::{logs, refused};
+
+fn hex(bytes: &[u8]) -> String {
+    bytes.iter().map(|byte| format!("{byte:02x}")).collect()
+}
+
+/// Taps whose bodies are the numbers from 1.
+fn numbered_taps(count: u64) -> Vec<Vec<u8>> {
+    let tap = |k: u64| [&[0x10], &k.to_be_bytes()[..]].concat();
+    (1..=count).map(tap).collect()
+}
+
+#[test]
+fn entries_7_and_22_have_the_nodes_of_the_bench_sheet() {
+    assert_eq!(heights(7), [2, 3]);
+    assert_eq!([2, 3].map(|h| left_child(7, h)), [(6, 1), (4, 2)]);
+    assert_eq!(heights(22), [1, 3, 5]);
+    let left = [1, 3, 5].map(|h| left_child(22, h));
+    assert_eq!(left, [(21, 0), (20, 2), (16, 4)]);
+    let right = [1, 3, 5].map(|h| right_child(22, h));
+    assert_eq!(right, [(22, 0), (22, 1), (22, 3)]);
+}
+
+#[test]
+fn eight_taps_begin_and_end_where_the_bench_sheet_says() {
+    let log = Log::of(&numbered_taps(8));
+    assert_eq!(log.starts(), [0, 52, 174, 296, 488, 610, 802, 994]);
+    assert_eq!(log.bytes().len(), 1_256);
+}
+
+#[test]
+fn a_log_of_4096_tickets_takes_2097152_bytes() {
+    let log = logs::tickets(4_096, &mut Random::new(1));
+    assert_eq!(log.bytes().len(), 2_097_152);
+}
+
+#[test]
+fn the_roots_of_one_to_eight_values_are_those_of_the_trees_written_out() {
+    let mut random = Random::new(2);
+    let values: Vec<_> = (0..8).map(|_| logs::value(&mut random)).collect();
+    let leaf = |i: usize| leaf_digest(&values[i - 1]);
+    let node = |h, left, right| node_digest(h, &left, &right);
+    let up_to_2 = node(1, leaf(1), leaf(2));
+    let up_to_4 = node(2, up_to_2, node(1, leaf(3), leaf(4)));
+    let from_5_to_6 = node(1, leaf(5), leaf(6));
+    let from_5_to_8 = node(2, from_5_to_6, node(1, leaf(7), leaf(8)));
+    let roots = [
+        [0; 32],
+        leaf(1),
+        up_to_2,
+        node(2, up_to_2, leaf(3)),
+        up_to_4,
+        node(3, up_to_4, leaf(5)),
+        node(3, up_to_4, from_5_to_6),
+        node(3, up_to_4, node(2, from_5_to_6, leaf(7))),
+        node(3, up_to_4, from_5_to_8),
+    ];
+    for (n, root) in roots.into_iter().enumerate() {
+        assert_eq!(Log::of(&values[..n]).root(), root, "{n} values");
+    }
+}
+
+/// The digests are from a program of its own, with the hash of Python's standard library.
+#[test]
+fn logs_of_22_values_are_byte_for_byte_those_of_another_program() {
+    let mut log = Log::of(&numbered_taps(22));
+    assert_eq!(
+        hex(&model::sha256(log.bytes())),
+        "56f036f084d1293af9ad8fa5c02b21e91ed07f4d066cbb12564f3a33933b5bd8"
+    );
+    assert_eq!(
+        hex(&log.root()),
+        "5f962f0ce96df0e56665521c1aa680e258479a21757c9edd9d919769469307d0"
+    );
+    // Value k has the kind 0x10 + k mod 3, and every byte of its body is k.
+    let mixed: Vec<_> = (1..=22)
+        .map(|k| match k % 3 {
+            0 => [&[0x10][..], &[k; 8]].concat(),
+            1 => [&[0x11][..], &[k; 16]].concat(),
+            _ => [&[0x12][..], &[k; 48]].concat(),
+        })
+        .collect();
+    let mut log = Log::of(&mixed);
+    assert_eq!(
+        hex(&model::sha256(log.bytes())),
+        "9dc895be34cb7731893eee4c6dff469af00e7d8bc91b3399ba3605bd86ef2a21"
+    );
+    assert_eq!(
+        hex(&log.root()),
+        "050c425a5c18a02511d2f38f8de30d86edc3882a2d123250b78d7b76235fdc12"
+    );
+}
+
+#[test]
+fn a_remembered_digest_is_the_one_that_the_values_give_afresh() {
+    let mut random = Random::new(3);
+    let mut grown = Tree::default();
+    for n in 1..=130 {
+        grown.push(&logs::value(&mut random));
+        for h in [0].into_iter().chain(heights(n)) {
+            let mut fresh = Tree::default();
+            grown.values().iter().for_each(|value| fresh.push(value));
+            assert_eq!(grown.digest((n, h)), fresh.digest((n, h)), "({n}, {h})");
+        }
+    }
+}
+
+/// Of the 256 kinds with bodies of 0 to 80 bytes three are values, each with one length.
+#[test]
+fn the_value_items_are_three_kinds_with_a_length_each() {
+    let mut found = Vec::new();
+    for kind in 0..=255 {
+        for body in 0..=80 {
+            if is_value(&vec![kind; 1 + body]) {
+                found.push((kind, body));
+            }
+        }
+    }
+    assert_eq!(found, [(0x10, 8), (0x11, 16), (0x12, 48)]);
+    assert_eq!(VALUES, [0x10, 0x11, 0x12]);
+    assert!(!is_value(&[]));
+}
+
+#[test]
+fn appends_one_after_another_make_the_log_of_the_values() {
+    let mut random = Random::new(4);
+    let mut log = Log::default();
+    let mut buffer = vec![0; 200 * logs::LONGEST_ENTRY];
+    for n in 1..=200 {
+        let value = logs::value(&mut random);
+        let used = model::append(&mut buffer, log.bytes().len(), &value);
+        log.push(&value);
+        assert_eq!(used, Ok(log.bytes().len()), "{n} values");
+        assert!(buffer.starts_with(log.bytes()), "{n} values");
+        assert_eq!(model::root(log.bytes()), Ok(log.root()), "{n} values");
+    }
+}
+
+#[test]
+fn what_is_said_not_to_open_does_not_and_forged_entries_do() {
+    let mut random = Random::new(5);
+    for (name, bytes) in refused::not_opening(&mut random) {
+        assert!(last_entry(&bytes).is_none(), "{name}: {bytes:02x?}");
+        assert_eq!(model::root(&bytes), Err(6), "{name}");
+    }
+    for index in 2..=4_096 {
+        let bytes = logs::forged(index, 300, &mut random);
+        let last = last_entry(&bytes).map(|entry| entry.index);
+        assert_eq!(last, Some(index));
+    }
+}

@@ -1,0 +1,102 @@
+//! The plain Rust that the benchmark measures against the model: append and audit that make each
+//! entry from the strata before it.
+
+use ringlog_tests::logs::{self, LONGEST_ENTRY, LONGEST_LOG, MASKS};
+use ringlog_tests::model::Log;
+use ringlog_tests::random::Random;
+use ringlog_tests::{model, plain, refused};
+
+fn assert_audits_agree(bytes: &[u8], case: impl Fn() -> String) {
+    assert_eq!(plain::audit(bytes), model::audit(bytes), "{}", case());
+}
+
+fn assert_appends_agree(buffer: &[u8], used: usize, item: &[u8], case: impl Fn() -> String) {
+    let (mut one, mut other) = (buffer.to_vec(), buffer.to_vec());
+    let expected = model::append(&mut other, used, item);
+    assert_eq!(plain::append(&mut one, used, item), expected, "{}", case());
+    assert!(one == other, "{}", case());
+}
+
+#[test]
+fn audits_of_whole_and_torn_logs_agree() {
+    let mut random = Random::new(1);
+    let log = logs::log(20, &mut random);
+    for len in 0..=log.bytes().len() {
+        assert_audits_agree(&log.bytes()[..len], || format!("{len} bytes"));
+    }
+    for n in [100, 300] {
+        let log = logs::log(n, &mut random);
+        assert_audits_agree(log.bytes(), || format!("{n} values"));
+    }
+}
+
+#[test]
+fn audits_of_bent_logs_agree() {
+    let mut random = Random::new(2);
+    let log = logs::log(9, &mut random);
+    let mut bytes = log.bytes().to_vec();
+    for at in 0..bytes.len() {
+        for mask in MASKS {
+            bytes[at] ^= mask;
+            assert_audits_agree(&bytes, || format!("byte {at} bent with {mask:#04x}"));
+            bytes[at] ^= mask;
+        }
+    }
+}
+
+#[test]
+fn audits_of_full_logs_agree_and_stop_before_entry_4097() {
+    let mut random = Random::new(3);
+    let log = logs::tickets(4_097, &mut random);
+    assert_audits_agree(log.bytes(), || "4,097 tickets".to_string());
+    assert_eq!(plain::audit(log.bytes()), (4_096, LONGEST_LOG));
+    let log = logs::taps(4_095, &mut random);
+    assert_audits_agree(log.bytes(), || "4,095 taps".to_string());
+}
+
+#[test]
+fn appends_of_random_values_agree() {
+    let mut random = Random::new(4);
+    let mut log = Log::default();
+    for n in 0..=200 {
+        let value = logs::value(&mut random);
+        for room in [0, 51, 52, LONGEST_ENTRY] {
+            let buffer = [log.bytes(), &random.bytes(room)].concat();
+            let case = || format!("{n} values, room of {room}");
+            assert_appends_agree(&buffer, log.bytes().len(), &value, case);
+        }
+        log.push(&value);
+    }
+}
+
+#[test]
+fn appends_behind_forged_and_bent_entries_agree() {
+    let mut random = Random::new(5);
+    for index in 2..=4_096 {
+        let log = logs::forged(index, 300, &mut random);
+        let value = logs::value(&mut random);
+        let mut buffer = [&log[..], &[0; LONGEST_ENTRY]].concat();
+        assert_appends_agree(&buffer, log.len(), &value, || format!("index {index}"));
+        let at = 300 + random.up_to(log.len() - 301);
+        buffer[at] ^= 0x01;
+        let case = || format!("index {index}, byte {at} bent");
+        assert_appends_agree(&buffer, log.len(), &value, case);
+    }
+}
+
+#[test]
+fn refused_appends_agree() {
+    let mut random = Random::new(6);
+    let tap = logs::tap(&mut random);
+    for (name, bytes) in refused::not_opening(&mut random) {
+        let buffer = [&bytes[..], &[0; LONGEST_ENTRY]].concat();
+        assert_appends_agree(&buffer, bytes.len(), &tap, || name.clone());
+    }
+    for item in refused::no_values() {
+        let buffer = [0; LONGEST_ENTRY];
+        assert_appends_agree(&buffer, 0, &item, || format!("{item:02x?}"));
+    }
+    for used in [101, (1 << 32) + 52, usize::MAX] {
+        assert_appends_agree(&[0; 100], used, &tap, || format!("used {used}"));
+    }
+}
