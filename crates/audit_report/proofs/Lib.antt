@@ -1,0 +1,3 @@
+pub mod Claimed
+pub mod Decimals
+pub mod Pieces

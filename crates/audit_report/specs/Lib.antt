@@ -1,0 +1,4 @@
+pub mod Claims
+pub mod Decimal
+pub mod Put
+pub mod Report
