@@ -3,7 +3,7 @@
 use mathlib.Core.Bool.{true, false}
 use mathlib.Core.List.{List, [], _∷_, _++_}
 use mathlib.Core.Path.{_≡_, refl, sym, ap, _∙_}
-use Prim.Native.Nat.{ℕ, zero, suc, _+_, _-_, _≤_, _<_}
+use Prim.Native.Nat.{ℕ, zero, suc, _+_, _-_, _≤_, _<_, min}
 use native.Mathlib.Nat.{add-sub-cancel-left}
 use native.Mathlib.Omega.{arith}
 use borrow.Author.Tests.{eq-eqb, eqb-true}
@@ -42,6 +42,11 @@ pub part-length : (b : List ℕ) (o n : ℕ) → o + n ≤ length b → length (
 unfolding part
 part-length b o n h = simp (length-take, length-drop) (omega arith)
 
+-- a part ends where the bytes end
+pub part-size : (b : List ℕ) (o n : ℕ) → length (part b o n) ≡ min n (length b - o)
+unfolding part
+part-size b o n = simp (length-take, length-drop)
+
 -- the n bytes behind the first o are m
 pub part-is : (p m r : List ℕ) (o n : ℕ) → length p ≡ o → length m ≡ n → part (p ++ (m ++ r)) o n ≡ m
 unfolding part
@@ -56,6 +61,16 @@ take-inside (suc k) m (suc n) (x ∷ xs) h = take-inside k m n xs (omega arith)
 pub part-part : (b : List ℕ) (o n k m : ℕ) → k + m ≤ n → part (part b o n) k m ≡ part b (o + k) m
 unfolding part
 part-part b o n k m h = take-inside k m n (drop o b) h ∙ ap (take m) (drop-drop k o b)
+
+-- a part of the first n bytes
+pub part-take : (b : List ℕ) (n o m : ℕ) → o + m ≤ n → part (take n b) o m ≡ part b o m
+unfolding part
+part-take b n o m h = take-inside o m n b h
+
+-- where n bytes are the same, so are the first of them
+pub part-same : (b c : List ℕ) (o n m : ℕ) → m ≤ n → part b o n ≡ part c o n → part b o m ≡ part c o m
+unfolding part
+part-same b c o n m h e = sym (take-take m n (drop o b) h) ∙ ap (take m) e ∙ take-take m n (drop o c) h
 
 pub part-byte : (b : List ℕ) (o n k : ℕ) → k < n → getD (part b o n) k 0 ≡ getD b (o + k) 0
 unfolding part
