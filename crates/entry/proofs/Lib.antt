@@ -4,6 +4,7 @@ pub mod EntryNodes
 pub mod Equality
 pub mod FieldForms
 pub mod Fields
+pub mod FirstValues
 pub mod Items
 pub mod Lengths
 pub mod LogBytes
@@ -12,6 +13,10 @@ pub mod LogShape
 pub mod NextEntry
 pub mod NextForms
 pub mod Openings
+pub mod PathForms
+pub mod PathSiblings
+pub mod Reached
+pub mod Refusals
 pub mod ShapeForms
 pub mod Shaped
 pub mod Stands

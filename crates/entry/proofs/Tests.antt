@@ -32,3 +32,8 @@ both-true false t h = true-false h refl
 pub test-same : (s t : Bool) → s ≡ t → Bool·beq s t ≡ true
 test-same true t h = rw (← h)
 test-same false t h = rw (← h)
+
+-- the last test decides
+pub last-test : (t : Bool) → all (t ∷ []) ≡ t
+last-test true = refl
+last-test false = refl

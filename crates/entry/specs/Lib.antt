@@ -5,6 +5,7 @@ pub mod Next
 pub mod Read
 pub mod Refusal
 pub mod Shape
+pub mod Siblings
 pub mod Walk
 pub mod Write
 pub mod Written

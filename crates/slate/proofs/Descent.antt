@@ -3,7 +3,9 @@
 use mathlib.Core.Path.{_≡_}
 use Prim.Native.Nat.{ℕ, zero, suc, _≤_, _<_}
 use native.Mathlib.Omega.{arith}
+use borrow.Author.Tests.{le-ltb, lt-ltb}
 use Rattle.slate.specs.Digits.{base, digit, left}
+use Rattle.slate.specs.Moves.{hopsFrom}
 use Rattle.slate.proofs.Bits.{base-under, base-zero, no-left}
 use Rattle.slate.proofs.Cases.{by-digit, by-order}
 
@@ -24,3 +26,18 @@ to-leaf P t leaf none onLeft onRight = go
         (λ d. by-order t (base x p)
         (λ o. onLeft x p low high d o (go (left x p) p (base-under x p t d low o .0) (base-under x p t d low o .1)))
         (λ o. onRight x p low high d o (go x p o high)))
+
+-- ---- the moves from a node, by those from the child on the side of the leaf
+
+module _ (x p t : ℕ) where
+  pub moves-none : digit x p ≡ 0 → hopsFrom x (suc p) t ≡ hopsFrom x p t
+  unfolding hopsFrom
+  moves-none d = rw d
+
+  pub moves-left : digit x p ≡ 1 → t < base x p → hopsFrom x (suc p) t ≡ suc (hopsFrom (left x p) p t)
+  unfolding hopsFrom
+  moves-left d o = rw (d, lt-ltb t (base x p) o)
+
+  pub moves-right : digit x p ≡ 1 → base x p ≤ t → hopsFrom x (suc p) t ≡ suc (hopsFrom x p t)
+  unfolding hopsFrom
+  moves-right d o = rw (d, le-ltb t (base x p) o)

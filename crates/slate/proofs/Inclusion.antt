@@ -9,6 +9,7 @@ use native.Mathlib.Omega.{arith}
 use borrow.Author.Tests.{le-leb, le-ltb, lt-leb, lt-ltb}
 use lib.Dec.{leb, ltb}
 use lib.ListN.{length, getD, length-append}
+use Rattle.sha256.specs.Fips180.{sha256}
 use Rattle.sha256.proofs.DigestBytes.{digest-length}
 use Rattle.slate.specs.Address.{HasNode}
 use Rattle.slate.specs.Bytes.{part}
@@ -65,10 +66,10 @@ module _ (t : ℕ) where
       (rw (digests-one pre (single t) vs (left x p) p (left-cut x p d o), e)))
 
   pub single-fold : (pre : Rule) (v proof : List ℕ) (x h : ℕ) → base x h ≤ t → t ≤ x
-      → rebuilt pre (single t) (λ y. v) x h proof ≡ foldFrom pre x h t v proof
+      → rebuilt pre (single t) (λ y. v) x h proof ≡ foldFrom pre x h t (sha256 (leafInput pre v)) proof
   unfolding rebuilt foldFrom part
   single-fold pre v proof =
-      to-leaf (λ x h. rebuilt pre (single t) (λ y. v) x h proof ≡ foldFrom pre x h t v proof) t
+      to-leaf (λ x h. rebuilt pre (single t) (λ y. v) x h proof ≡ foldFrom pre x h t (sha256 (leafInput pre v)) proof) t
       (rw kept-leaf)
       (λ x p a b d e. rw (kept x (suc p) a b, d) e)
       (λ x p a b d o e. rw (kept x (suc p) a b, d, lt-ltb t (base x p) o, lt-leb (base x p) t o)
@@ -99,30 +100,32 @@ path-length pre vs x (suc p) t =
     (λ o. rw (o, length-append, top-length, path-length pre vs (left x p) p t) (omega arith))
     (λ o. rw (o, length-append, top-length, path-length pre vs x p t) (omega arith))))
 
-pub fold-length : (pre : Rule) (x h t : ℕ) (v proof : List ℕ) → length (foldFrom pre x h t v proof) ≡ 32
+-- a fold of a leaf's digest is a digest
+pub fold-length : (pre : Rule) (x h t : ℕ) (d proof : List ℕ) → length d ≡ 32 → length (foldFrom pre x h t d proof) ≡ 32
 unfolding foldFrom
-fold-length pre x zero t v proof = digest-length (leafInput pre v)
-fold-length pre x (suc p) t v proof =
+fold-length pre x zero t d proof e = e
+fold-length pre x (suc p) t d proof e =
     by-digit x p
-    (λ d. rw d (fold-length pre x p t v proof))
-    (λ d. rw d (by-bool (ltb t (base x p)) (λ o. rw (o, digest-length)) (λ o. rw (o, digest-length))))
+    (λ z. rw z (fold-length pre x p t d proof e))
+    (λ s. rw s (by-bool (ltb t (base x p)) (λ o. rw (o, digest-length)) (λ o. rw (o, digest-length))))
 
 -- ---- completeness and soundness
 
 module _ (pre : Rule) (vs : List (List ℕ)) (x h t : ℕ) (low : base x h ≤ t) (high : t ≤ x) where
   -- the value folds to the digest of the tree, with any proof that begins with its path
-  pub fold-begins : (r : List ℕ) → foldFrom pre x h t (getD vs t []) (pathFrom pre vs x h t ++ r) ≡ top pre vs x h
+  pub fold-begins : (r : List ℕ) → foldFrom pre x h t (sha256 (leafInput pre (getD vs t []))) (pathFrom pre vs x h t ++ r) ≡ top pre vs x h
   fold-begins r =
       sym (single-fold t pre (getD vs t []) (pathFrom pre vs x h t ++ r) x h low high)
       ∙ rw (← single-path t pre vs x h low high)
       (rebuilt-complete pre (single t) vs (λ y. getD vs t []) x h r
       (λ y a b u. let e : y ≡ t = omega (arith, base-zero y, outside-false t (suc t) y 0 u) in rw e))
 
-  pub fold-path : foldFrom pre x h t (getD vs t []) (pathFrom pre vs x h t) ≡ top pre vs x h
+  pub fold-path : foldFrom pre x h t (sha256 (leafInput pre (getD vs t []))) (pathFrom pre vs x h t) ≡ top pre vs x h
   fold-path = rw append-nil at (fold-begins [])
 
   -- what folds to the digest of the tree is the value, or an input is forged
-  pub fold-sound : (v proof : List ℕ) → 32 * hopsFrom x h t ≤ length proof → foldFrom pre x h t v proof ≡ top pre vs x h
+  pub fold-sound : (v proof : List ℕ) → 32 * hopsFrom x h t ≤ length proof
+      → foldFrom pre x h t (sha256 (leafInput pre v)) proof ≡ top pre vs x h
       → (v ≡ getD vs t []) ⊎ Forged pre (single t) (λ y. v) proof vs x h
   fold-sound v proof f e =
       ⊎-map (λ r. r t low high (kept-leaf t)) (λ g. g)

@@ -6,9 +6,11 @@ pub mod Clashes
 pub mod CodeForms
 pub mod Comparisons
 pub mod Descent
+pub mod FoldForms
 pub mod Formulas
 pub mod HighestBit
 pub mod Inclusion
+pub mod LeafForms
 pub mod Leaves
 pub mod Lists
 pub mod Outside

@@ -28,16 +28,16 @@ path pre vs i = pathFrom pre vs (length vs - 1) maxHeight (i - 1)
 abbrev pub sibling : List ℕ → ℕ → List ℕ
 sibling proof n = part proof (32 * n) 32
 
--- the digest of that node, from the value v at position t and the siblings of a proof
+-- the digest of that node, from the digest d of the leaf at position t and the siblings of a proof
 unfoldable pub foldFrom : Rule → ℕ → ℕ → ℕ → List ℕ → List ℕ → List ℕ
-foldFrom pre x zero t v proof = sha256 (leafInput pre v)
-foldFrom pre x (suc p) t v proof =
+foldFrom pre x zero t d proof = d
+foldFrom pre x (suc p) t d proof =
     ifSet (digit x p)
     (pick (ltb t (base x p))
-    (sha256 (nodeInput pre (suc p) (foldFrom pre (left x p) p t v proof) (sibling proof (hopsFrom (left x p) p t))))
-    (sha256 (nodeInput pre (suc p) (sibling proof (hopsFrom x p t)) (foldFrom pre x p t v proof))))
-    (foldFrom pre x p t v proof)
+    (sha256 (nodeInput pre (suc p) (foldFrom pre (left x p) p t d proof) (sibling proof (hopsFrom (left x p) p t))))
+    (sha256 (nodeInput pre (suc p) (sibling proof (hopsFrom x p t)) (foldFrom pre x p t d proof))))
+    (foldFrom pre x p t d proof)
 
--- the fold of the value v as value i of n with a proof
+-- the fold of the value v as value i of n with a proof: the digest of its leaf is hashed from it
 abbrev pub fold : Rule → ℕ → ℕ → List ℕ → List ℕ → List ℕ
-fold pre n i v proof = foldFrom pre (n - 1) maxHeight (i - 1) v proof
+fold pre n i v proof = foldFrom pre (n - 1) maxHeight (i - 1) (sha256 (leafInput pre v)) proof

@@ -1,8 +1,10 @@
-// The numbers of the tree over a list of values: digits of a position, lengths of entries, and the
-// moves from the root to a leaf.
+// The tree over a list of values: digits of a position, lengths of entries, the moves from the root
+// to a leaf, the digest of a leaf, and its fold with the siblings of a proof.
 //
 // specs/ has the tree itself, in document 01's terms; no code builds it. All functions here are
 // internal, for the crates above: some ask for what their callers have tested.
 pub mod digits;
+pub mod fold;
+pub mod leaf;
 pub mod length;
 pub mod moves;

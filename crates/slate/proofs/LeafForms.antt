@@ -1,0 +1,19 @@
+-- The digest of a leaf, as code hashes it: the kind of the value item, then its body.
+-- Assumes nothing.
+use mathlib.Core.List.{List, _∷_, _++_}
+use mathlib.Core.Path.{_≡_, ap, _∙_}
+use Prim.Native.Nat.{ℕ, _-_}
+use native.Mathlib.Omega.{arith}
+use lib.ListN.{length, take, drop, length-drop, take-append-drop}
+use lib.Seq.{take-all}
+use Rattle.sha256.specs.Answer.{tagged}
+use Rattle.sha256.specs.Fips180.{sha256}
+use Rattle.slate.specs.Tree.{leafInput, slate}
+
+-- an item is its kind and its body
+kind-body : (v : List ℕ) → take 1 v ++ take (length v - 1) (drop 1 v) ≡ v
+kind-body v = rw (take-all (length v - 1) (drop 1 v) (omega (arith, length-drop 1 v))) (take-append-drop 1 v)
+
+pub leaf-hashed : (v r : List ℕ) → r ≡ tagged 0 (take 1 v) (take (length v - 1) (drop 1 v)) → r ≡ sha256 (leafInput slate v)
+unfolding tagged
+leaf-hashed v r e = e ∙ ap (λ (l : List ℕ). sha256 (0 ∷ l)) (kind-body v)
