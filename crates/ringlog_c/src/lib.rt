@@ -4,13 +4,18 @@
 // A call returns a struct by value, so a refused call writes nothing that it was lent.
 // specs/Wire.antt says what each struct holds.
 ghost use mathlib.Core.Path.{_≡_};
+ghost use lib.ListN.{length};
 ghost use Rattle.sha256.specs.Answer.{hashed};
 ghost use Rattle.ringlog.specs.Answer.{after, answer, countOf};
 ghost use Rattle.ringlog.specs.Append.{appended};
 ghost use Rattle.ringlog.specs.Audit.{audited};
+ghost use Rattle.ringlog.specs.Cut.{afterCut, cutTo};
 ghost use Rattle.ringlog.specs.Root.{rootAnswer};
-ghost use Rattle.ringlog_c.specs.Wire.{countWire, digestWire, extentWire, rootWire};
-use ringlog::Appended;
+ghost use Rattle.inclusion.specs.Check.{proofHolds};
+ghost use Rattle.inclusion.specs.Prove.{proofOf};
+ghost use Rattle.inclusion.specs.Value.{checkedValue};
+ghost use Rattle.ringlog_c.specs.Wire.{countWire, digestWire, extentWire, partWire, rootWire};
+use ringlog::Counted;
 
 // struct ringlog_count
 #[repr(C)]
@@ -33,6 +38,14 @@ pub struct DigestWire {
     pub digest: [u8; 32],
 }
 
+// struct ringlog_part
+#[repr(C)]
+pub struct PartWire {
+    pub number: u32,
+    pub offset: u64,
+    pub length: u64,
+}
+
 #[no_mangle]
 pub extern "C" fn ringlog_sha256(message: &[u8]) -> DigestWire
     ensures { λ r. ⌜ r ≡ digestWire (hashed (now (message .entry))) ⌝ }
@@ -45,16 +58,16 @@ pub extern "C" fn ringlog_sha256(message: &[u8]) -> DigestWire
     }
 }
 
-// An append's answer, by the numbers of document 01.
-fn appended_wire(answer: Appended) -> CountWire
+// A number of bytes or a refusal, by the numbers of document 01.
+fn count_wire(answer: Counted) -> CountWire
     ensures { λ r. ⌜ r ≡ countWire (countOf answer) ⌝ }
 {
     match answer {
-        Appended::Done(used) => CountWire {
+        Counted::Done(bytes) => CountWire {
             number: 0,
-            value: used as u64,
+            value: bytes as u64,
         },
-        Appended::Refused(cause) => CountWire {
+        Counted::Refused(cause) => CountWire {
             number: cause.number(),
             value: 0,
         },
@@ -66,7 +79,7 @@ pub extern "C" fn ringlog_append(buffer: &mut [u8], used: usize, item: &[u8]) ->
     ensures { λ r. ⌜ r ≡ countWire (answer used (appended (now (buffer .entry)) used (now (item .entry)))) ⌝ }
     ensures { λ _. ⌜ now (buffer .exit) ≡ after (now (buffer .entry)) used (appended (now (buffer .entry)) used (now (item .entry))) ⌝ }
 {
-    appended_wire(ringlog::append(buffer, used, item))
+    count_wire(ringlog::append(buffer, used, item))
 }
 
 #[no_mangle]
@@ -90,4 +103,45 @@ pub extern "C" fn ringlog_root(log: &[u8]) -> DigestWire
         number: root.number,
         digest,
     }
+}
+
+#[no_mangle]
+pub extern "C" fn ringlog_cut(buffer: &mut [u8], used: usize, count: usize) -> CountWire
+    ensures { λ r. ⌜ r ≡ countWire (cutTo (now (buffer .entry)) used count) ⌝ }
+    ensures { λ _. ⌜ now (buffer .exit) ≡ afterCut (now (buffer .entry)) ⌝ }
+{
+    count_wire(ringlog::cut(buffer, used, count))
+}
+
+#[no_mangle]
+pub extern "C" fn ringlog_value(log: &[u8], root: &[u8], index: usize) -> PartWire
+    ensures { λ r. ⌜ r ≡ partWire (checkedValue (now (log .entry)) (now (root .entry)) index) ⌝ }
+{
+    let place = inclusion::value_place(log, root, index);
+    PartWire {
+        number: place.number,
+        offset: place.offset as u64,
+        length: place.length as u64,
+    }
+}
+
+#[no_mangle]
+pub extern "C" fn ringlog_proof(log: &[u8], index: usize, output: &mut [u8]) -> CountWire
+    ensures { λ r. ⌜ r ≡ countWire (answer 0 (proofOf (now (log .entry)) index (length (now (output .entry))))) ⌝ }
+    ensures { λ _. ⌜ now (output .exit) ≡ after (now (output .entry)) 0 (proofOf (now (log .entry)) index (length (now (output .entry)))) ⌝ }
+{
+    count_wire(inclusion::proof(log, index, output))
+}
+
+#[no_mangle]
+pub extern "C" fn ringlog_check_proof(
+    count: usize,
+    index: usize,
+    item: &[u8],
+    proof: &[u8],
+    root: &[u8],
+) -> bool
+    ensures { λ r. ⌜ r ≡ proofHolds count index (now (item .entry)) (now (proof .entry)) (now (root .entry)) ⌝ }
+{
+    inclusion::check_proof(count, index, item, proof, root)
 }

@@ -9,7 +9,7 @@ use Rattle.ringlog_c.proofs.ringlog_append.Tie as tie
 returns : tie.Need-returns
 returns c =
     let a = c .before .before .before .append in
-    (c .appended-wire .ensures ∙ ap countWire (a .ensures .0), a .ensures .1)
+    (c .count-wire .ensures ∙ ap countWire (a .ensures .0), a .ensures .1)
 
 pub ringlog-append-spec : {M : Type 1} → statement M
 ringlog-append-spec =

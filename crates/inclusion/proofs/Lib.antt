@@ -1,0 +1,9 @@
+pub mod AnyBytes
+pub mod CheckClaims
+pub mod CheckForms
+pub mod Indexes
+pub mod LogClaims
+pub mod PathTaken
+pub mod ProveForms
+pub mod ValueCases
+pub mod ValueForms

@@ -1,0 +1,68 @@
+-- On a well-formed log: the checked value is the value, and the proof is the path, which the checker accepts.
+-- Assumes nothing.
+use mathlib.Core.List.{List, []}
+use mathlib.Core.Path.{_≡_, refl, ap, _∙_}
+use Prim.Native.Nat.{ℕ, _-_, _≤_}
+use native.Mathlib.Omega.{arith}
+use lib.ListN.{length, getD}
+use Rattle.slate.specs.Length.{offset}
+use Rattle.slate.specs.Path.{path}
+use Rattle.slate.specs.Tree.{root, slate}
+use Rattle.entry.specs.Log.{Values, log}
+use Rattle.entry.specs.Read.{payloadAt}
+use Rattle.ringlog.specs.Answer.{answer, counted, written}
+use Rattle.inclusion.specs.Claims as claims
+use Rattle.inclusion.specs.Value.{checkedValue, foldAt, itemPart, partOf}
+use Rattle.slate.proofs.Inclusion.{inclusion-complete, inclusion-length}
+use Rattle.slate.proofs.Lists.{same-refl}
+use Rattle.slate.proofs.Tops.{root-length}
+use Rattle.entry.proofs.Claimed.{opening-counts, siblings-read}
+use Rattle.entry.proofs.Reached.{Indexed, Reached, log-reached, reached}
+use Rattle.entry.proofs.WholeLog.{holds-self, log-payload}
+use Rattle.inclusion.proofs.CheckClaims.{check-complete}
+use Rattle.inclusion.proofs.ProveForms.{proof-reached}
+use Rattle.inclusion.proofs.ValueForms.{value-reached}
+
+module _ (vs : List (List ℕ)) (i : ℕ) (ok : Values vs) (first : 1 ≤ i) (high : i ≤ length vs) where
+  there : Indexed (log vs) (offset vs (length vs - 1)) (length vs) i
+  there = record { opens = opening-counts vs ok; first = first; high = high }
+
+  -- its entry is reached where the log has it
+  found : Reached (log vs) (offset vs (length vs - 1)) (length vs) (i - 1) (offset vs (i - 1))
+  found = reached there (offset vs (i - 1)) _ (log-reached vs ok (i - 1) (omega arith))
+
+  value-there : payloadAt (log vs) (offset vs (i - 1)) ≡ getD vs (i - 1) []
+  value-there = log-payload (holds-self vs ok) (i - 1) (omega arith)
+
+  folds-there : foldAt (log vs) (offset vs (length vs - 1)) (length vs) i (offset vs (i - 1)) ≡ root slate vs
+  folds-there =
+      rw (value-there, siblings-read vs (log vs) (holds-self vs ok) i first high) (inclusion-complete slate vs i first high (ok .few))
+
+  answered : checkedValue (log vs) (root slate vs) i ≡ itemPart (log vs) (offset vs (i - 1))
+  answered =
+      value-reached there (root slate vs) (root-length slate vs) _ found
+      ∙ rw (folds-there, same-refl (root slate vs))
+
+pub value-of-log : claims.ValueOfLog
+unfolding payloadAt
+value-of-log vs i ok first high =
+    (answered vs i ok first high, ap (partOf (log vs)) (answered vs i ok first high) ∙ value-there vs i ok first high)
+
+pub proof-of-log : claims.ProofOfLog
+proof-of-log vs i room ok first high fits =
+    let e = proof-reached (there vs i ok first high) room _ refl fits _ (found vs i ok first high)
+    ∙ ap written (siblings-read vs (log vs) (holds-self vs ok) i first high) in
+    (e, ap (answer 0) e ∙ ap counted (omega (arith, inclusion-length slate vs i first high (ok .few))))
+
+pub proof-accepted : claims.ProofAccepted
+proof-accepted vs i ok first high =
+    check-complete (length vs) i (getD vs (i - 1) []) (path slate vs i) (root slate vs)
+    (record {
+      first = first;
+      last = high;
+      few = ok .few;
+      item = ok .items (i - 1) (omega arith) .valid;
+      whole = inclusion-length slate vs i first high (ok .few);
+      digest = root-length slate vs;
+      folds = inclusion-complete slate vs i first high (ok .few);
+    })

@@ -1,0 +1,86 @@
+-- What is claimed of the calls of this crate, in document 01's terms: each claim is a type, and proofs/ has its proof.
+use mathlib.Core.Bool.{true}
+use mathlib.Core.List.{List, []}
+use mathlib.Core.Path.{_≡_}
+use Prim.Native.Nat.{ℕ, _*_, _-_, _^_, _≤_}
+use lib.ListN.{length, getD}
+use Rattle.slate.specs.Digits.{maxHeight}
+use Rattle.slate.specs.Length.{offset}
+use Rattle.slate.specs.Moves.{hops}
+use Rattle.slate.specs.Path.{fold, path}
+use Rattle.slate.specs.Tree.{root, slate}
+use Rattle.entry.specs.Kind.{isItem}
+use Rattle.entry.specs.Log.{Values, log}
+use Rattle.entry.specs.Shape.{openedLog}
+use Rattle.entry.specs.declared.Opened.the-variants as opened
+use Rattle.ringlog.specs.Answer.{after, answer, counted, written}
+use Rattle.inclusion.specs.Check.{proofHolds}
+use Rattle.inclusion.specs.Prove.{proofOf}
+use Rattle.inclusion.specs.Value.{checkedValue, itemPart, noPart, partOf}
+
+-- ---- proof check
+
+-- what a yes says, and nothing more is asked
+pub record Included (n i : ℕ) (v proof r : List ℕ) : Type 0 where
+  pub first : 1 ≤ i
+  pub last : i ≤ n
+  pub few : n ≤ 2 ^ maxHeight
+  pub item : isItem v ≡ true
+  pub whole : length proof ≡ 32 * hops n i
+  pub digest : length r ≡ 32
+  pub folds : fold slate n i v proof ≡ r
+
+abbrev pub CheckSound : Type 0
+CheckSound = (n i : ℕ) (v proof r : List ℕ) → proofHolds n i v proof r ≡ true → Included n i v proof r
+
+abbrev pub CheckComplete : Type 0
+CheckComplete = (n i : ℕ) (v proof r : List ℕ) → Included n i v proof r → proofHolds n i v proof r ≡ true
+
+-- ---- on a well-formed log, for 1 ≤ i ≤ n
+
+-- the checked value against the log's own root is the i-th value
+abbrev pub ValueOfLog : Type 0
+ValueOfLog =
+    (vs : List (List ℕ)) (i : ℕ) → Values vs → 1 ≤ i → i ≤ length vs
+    → (checkedValue (log vs) (root slate vs) i ≡ itemPart (log vs) (offset vs (i - 1)))
+    × (partOf (log vs) (checkedValue (log vs) (root slate vs) i) ≡ getD vs (i - 1) [])
+
+-- with room, the proof is the path of the tree of its values, 32·hops bytes; the rest of the output stays
+abbrev pub ProofOfLog : Type 0
+ProofOfLog =
+    (vs : List (List ℕ)) (i room : ℕ) → Values vs → 1 ≤ i → i ≤ length vs → 32 * hops (length vs) i ≤ room
+    → (proofOf (log vs) i room ≡ written (path slate vs i))
+    × (answer 0 (proofOf (log vs) i room) ≡ counted (32 * hops (length vs) i))
+
+-- and the checker accepts it with that value and root
+abbrev pub ProofAccepted : Type 0
+ProofAccepted =
+    (vs : List (List ℕ)) (i : ℕ) → Values vs → 1 ≤ i → i ≤ length vs
+    → proofHolds (length vs) i (getD vs (i - 1) []) (path slate vs i) (root slate vs) ≡ true
+
+-- ---- on any bytes
+
+-- what is read out is what the root binds: a checked value that answers is, with some proof, included under the lent root as value i of
+-- as many values as the log has
+abbrev pub ValueBound : Type 0
+ValueBound =
+    (b r : List ℕ) (i : ℕ) → checkedValue b r i .number ≡ 0
+    → (o : ℕ) × (n : ℕ) × (proof : List ℕ) × (openedLog b ≡ opened.Log o n) × Included n i (partOf b (checkedValue b r i)) proof r
+
+-- a refused value is the empty part
+abbrev pub ValueRefused : Type 0
+ValueRefused =
+    (b r : List ℕ) (i : ℕ) → (checkedValue b r i .number ≡ 0 → ⊥)
+    → (checkedValue b r i ≡ noPart (checkedValue b r i .number)) × (partOf b (checkedValue b r i) ≡ [])
+
+-- a proof that is written has 32·hops bytes, which fit
+abbrev pub ProofWritten : Type 0
+ProofWritten =
+    (b s : List ℕ) (i room : ℕ) → proofOf b i room ≡ written s
+    → (o : ℕ) × (n : ℕ) × (openedLog b ≡ opened.Log o n) × (length s ≡ 32 * hops n i) × (length s ≤ room)
+
+-- a refused proof answers 0, and leaves the output byte for byte
+abbrev pub ProofRefused : Type 0
+ProofRefused =
+    (b out : List ℕ) (i : ℕ) → (answer 0 (proofOf b i (length out)) .number ≡ 0 → ⊥)
+    → (answer 0 (proofOf b i (length out)) .value ≡ 0) × (after out 0 (proofOf b i (length out)) ≡ out)
