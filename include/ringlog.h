@@ -6,10 +6,10 @@
  * allocates nothing, and calls no other function than memcpy and memset, so it may be called from
  * any thread.
  *
- * Every call is defined for any bytes and any lengths. It answers with a struct by value, and a call
- * that is refused writes nothing to the memory that it was lent. All memory stays the caller's: the
- * library keeps no pointer when a call has returned. The one thing that is left to the caller is the
- * memory itself:
+ * Every call is defined for any bytes, numbers and lengths. It answers by value, and a call that is
+ * refused writes nothing to the memory that it was lent. All memory stays the caller's: the library
+ * keeps no pointer when a call has returned. The one thing that is left to the caller is the memory
+ * itself:
  *
  *   - a pointer is not null, also where its length is 0;
  *   - the bytes from the pointer on, as many as the length says, may be read, and nobody changes
@@ -29,20 +29,32 @@
  *
  * A log is well formed where every byte of it is the one that is written for its values. It opens
  * where it is empty or its last entry has the right shape, whatever stands before that entry: only
- * the audit looks at every byte.
+ * the audit looks at every byte. In what follows, n is the index of the last entry of a log that
+ * opens, and 0 for an empty log.
+ *
+ * The entries of a log hold the nodes of a hash tree, whose top digest is the root. Cut, value and
+ * proof go from the last entry to the one that is wanted, from the top of the tree down, by at most
+ * 12 links. A link is the offset of an older entry and a digest: the entry there must have the right
+ * shape and the index wanted (else 6), and then it must store that digest (else 7). No other entry is
+ * looked at, so what else stands in the log does not matter to them.
  *
  * Numbers of refusals, the same in every call:
  *
  *   0  answered
- *   1  a message to hash is longer than 65,535 bytes; used is above the buffer's length
+ *   1  a message to hash is longer than 65,535 bytes; used is above the buffer's length; a root has
+ *      not 32 bytes
+ *   2  the index is 0 or above n; the count of a cut is above n
  *   3  a value item to append has an unknown kind or a wrong length
  *   4  the log has 4,096 entries already
  *   5  the entry is longer than the buffer's room after used
- *   6  the log does not open
+ *   6  the log does not open; a link leads to no entry of the right shape with the index wanted
+ *   7  a link's digest is not the one stored where it leads; a value does not fold to the root
+ *   8  the proof is longer than the output
  */
 #ifndef RINGLOG_H
 #define RINGLOG_H
 
+#include <stdbool.h>
 #include <stddef.h>
 #include <stdint.h>
 
@@ -66,6 +78,16 @@ struct ringlog_count {
 struct ringlog_extent {
     uint64_t entries;
     uint64_t bytes;
+};
+
+/*
+ * A part of a log that was lent: number 0, where it begins in that log and how many bytes it has, or
+ * the number of a refusal and two zeros. The bytes themselves are not copied; they stay the caller's.
+ */
+struct ringlog_part {
+    uint32_t number;
+    uint64_t offset;
+    uint64_t length;
 };
 
 /*
@@ -105,6 +127,69 @@ struct ringlog_extent ringlog_audit(const uint8_t *bytes, size_t bytes_len);
  * Refused with 6 where the log does not open. Writes nothing.
  */
 struct ringlog_digest ringlog_root(const uint8_t *log, size_t log_len);
+
+/*
+ * Value `index` of a log, checked against a root that the caller trusts: the value item, kind and
+ * body, as a part of the log. The value found is hashed anew and folded with the siblings on its
+ * path, as the log stores them, and the fold must give the lent root. So the answer rests on the root
+ * and not on the log, which may be damaged or forged. The root need not be the one that the log
+ * stores. Writes nothing.
+ *
+ * Refused, the first that applies, with offset and length 0:
+ *   1  root_len is not 32;
+ *   6  the log does not open;
+ *   2  index is 0 or above n;
+ *   6, 7  a link on the way does not hold, from the top down, in one link 6 before 7;
+ *   7  the fold does not give the root, as with the root of fewer values.
+ */
+struct ringlog_part ringlog_value(const uint8_t *log, size_t log_len,
+                                  const uint8_t *root, size_t root_len, size_t index);
+
+/*
+ * Writes a proof that value `index` is in a log of n values: the siblings on its path, as the log
+ * stores them, 32 bytes each, the one next to the leaf first. The value is how many bytes it has; the
+ * rest of the output stays as it was. A proof has at most 384 bytes, and none where n is 1. Of a log
+ * that may be damaged it says nothing before ringlog_check_proof accepts it.
+ *
+ * Refused, the first that applies, with value 0 and no byte written:
+ *   6  the log does not open;
+ *   2  index is 0 or above n;
+ *   8  the proof is longer than output_len;
+ *   6, 7  a link on the way does not hold, from the top down, in one link 6 before 7.
+ */
+struct ringlog_count ringlog_proof(const uint8_t *log, size_t log_len, size_t index,
+                                   uint8_t *output, size_t output_len);
+
+/*
+ * Whether a proof shows that a value item is value `index` of a log of `count` values with this root.
+ * No log is needed. True exactly when
+ *   - 1 <= index <= count <= 4,096,
+ *   - the item is a value item,
+ *   - the proof has as many bytes as the proof of this value has, no less and no more,
+ *   - root_len is 32,
+ *   - and the item, folded with the proof, gives the root.
+ * There are no refusals: everything else is false. Writes nothing.
+ *
+ * The root decides. Where two counts give a value the same path, as 3 and 4 do for value 1, the proof
+ * holds for both.
+ */
+bool ringlog_check_proof(size_t count, size_t index, const uint8_t *item, size_t item_len,
+                         const uint8_t *proof, size_t proof_len,
+                         const uint8_t *root, size_t root_len);
+
+/*
+ * Cuts the log in the first `used` bytes of a buffer to its first `count` values: the value is where
+ * entry `count` ends, the used to go on with. It is 0 for a count of 0, also on an empty log, and
+ * used for a count of n; these two follow no link. No byte of the buffer is touched. The bytes of a
+ * well-formed log up to that end are the well-formed log of its first values.
+ *
+ * Refused, the first that applies, with value 0:
+ *   1  used is above buffer_len;
+ *   6  the log does not open;
+ *   2  count is above n;
+ *   6, 7  a link on the way does not hold, from the top down, in one link 6 before 7.
+ */
+struct ringlog_count ringlog_cut(uint8_t *buffer, size_t buffer_len, size_t used, size_t count);
 
 #ifdef __cplusplus
 }

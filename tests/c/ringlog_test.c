@@ -1,7 +1,8 @@
-/* The C interface as a C program sees it: the layout of its structs, known digests, and a short log. */
+/* The C interface as a C program sees it: the layout of its structs, known digests, short logs. */
 
 #include "ringlog.h"
 
+#include <stdbool.h>
 #include <stddef.h>
 #include <stdint.h>
 #include <stdio.h>
@@ -51,6 +52,11 @@ static int is_extent(struct ringlog_extent result, uint64_t entries, uint64_t by
     return result.entries == entries && result.bytes == bytes;
 }
 
+static int is_part(struct ringlog_part result, uint32_t number, uint64_t offset, uint64_t length)
+{
+    return result.number == number && result.offset == offset && result.length == length;
+}
+
 static struct ringlog_digest digest_of(const char *text)
 {
     return ringlog_sha256((const uint8_t *)text, strlen(text));
@@ -69,6 +75,10 @@ static void check_layout(void)
     check(sizeof(struct ringlog_extent) == 16, "struct ringlog_extent has 16 bytes");
     check(offsetof(struct ringlog_extent, entries) == 0, "its entries are at offset 0");
     check(offsetof(struct ringlog_extent, bytes) == 8, "its bytes are at offset 8");
+    check(sizeof(struct ringlog_part) == 24, "struct ringlog_part has 24 bytes");
+    check(offsetof(struct ringlog_part, number) == 0, "its number is at offset 0");
+    check(offsetof(struct ringlog_part, offset) == 8, "its offset is at offset 8");
+    check(offsetof(struct ringlog_part, length) == 16, "its length is at offset 16");
 }
 
 static void check_known_digests(void)
@@ -97,6 +107,7 @@ static void check_longest(void)
 
 static const uint8_t first_tap[9] = {0x10, 0, 0, 0, 0, 0, 0, 0, 1};
 static const uint8_t second_tap[9] = {0x10, 0, 0, 0, 0, 0, 0, 0, 2};
+static const uint8_t third_tap[9] = {0x10, 0, 0, 0, 0, 0, 0, 0, 3};
 
 static void check_log_of_two_taps(void)
 {
@@ -142,7 +153,97 @@ static void check_refused_appends(void)
     check(is_count(ringlog_append(buffer, 51, 51, first_tap, 9), 6, 0), "what does not open is 6");
     check(is_count(ringlog_append(buffer, 51, 0, first_tap, 9), 5, 0), "a tap into 51 bytes is 5");
     check(memcmp(buffer, zeros, sizeof zeros) == 0, "a refused append writes nothing");
-    check(is_count(ringlog_append(buffer, 52, 0, first_tap, 9), 0, 52), "a tap into 52 bytes works");
+    check(is_count(ringlog_append(buffer, 52, 0, first_tap, 9), 0, 52),
+          "a tap into 52 bytes works");
+}
+
+/* Entries 1, 2 and 3 begin at 0, 52 and 174, and the log ends at 296. */
+static uint8_t three_taps[296];
+
+static void append_three_taps(void)
+{
+    ringlog_append(three_taps, sizeof three_taps, 0, first_tap, 9);
+    ringlog_append(three_taps, sizeof three_taps, 52, second_tap, 9);
+    check(is_count(ringlog_append(three_taps, sizeof three_taps, 174, third_tap, 9), 0, 296),
+          "three taps take 296 bytes");
+}
+
+static void check_cuts(void)
+{
+    uint8_t log[296];
+
+    memcpy(log, three_taps, sizeof log);
+    check(is_count(ringlog_cut(log, 296, 296, 3), 0, 296), "a cut to n answers used");
+    check(is_count(ringlog_cut(log, 296, 296, 2), 0, 174), "a cut to 2 answers the end of entry 2");
+    check(is_count(ringlog_cut(log, 296, 296, 1), 0, 52), "a cut to 1 answers the end of entry 1");
+    check(is_count(ringlog_cut(log, 296, 296, 0), 0, 0), "a cut to 0 answers 0");
+    check(is_count(ringlog_cut(log, 296, 297, 4), 1, 0), "used above the buffer is 1");
+    check(is_count(ringlog_cut(log, 296, 295, 4), 6, 0), "what does not open is 6");
+    check(is_count(ringlog_cut(log, 296, 296, 4), 2, 0), "a cut to n + 1 is 2");
+    check(memcmp(log, three_taps, sizeof log) == 0, "a cut touches no byte");
+    log[0] ^= 1;
+    check(is_count(ringlog_cut(log, 296, 296, 1), 6, 0), "an entry met that is not shaped is 6");
+    check(is_count(ringlog_cut(log, 296, 296, 2), 0, 174),
+          "an entry that is not met does not matter");
+}
+
+static void check_values(void)
+{
+    struct ringlog_digest root = ringlog_root(three_taps, 296);
+    struct ringlog_part part = ringlog_value(three_taps, 296, root.digest, 32, 2);
+
+    check(is_part(part, 0, 57, 9), "value 2 is nine bytes at 57");
+    check(memcmp(three_taps + part.offset, second_tap, 9) == 0, "they are the second tap");
+    check(is_part(ringlog_value(three_taps, 296, root.digest, 32, 1), 0, 5, 9), "value 1 is at 5");
+    check(is_part(ringlog_value(three_taps, 296, root.digest, 32, 3), 0, 179, 9),
+          "value 3 is at 179");
+    check(is_part(ringlog_value(three_taps, 295, root.digest, 31, 0), 1, 0, 0), "no root is 1");
+    check(is_part(ringlog_value(three_taps, 295, root.digest, 32, 0), 6, 0, 0), "no log is 6");
+    check(is_part(ringlog_value(three_taps, 296, root.digest, 32, 0), 2, 0, 0), "index 0 is 2");
+    check(is_part(ringlog_value(three_taps, 296, root.digest, 32, 4), 2, 0, 0), "index n + 1 is 2");
+    check(is_part(ringlog_value(three_taps, 0, root.digest, 32, 0), 2, 0, 0),
+          "index 0 of an empty log is 2");
+    root = ringlog_root(three_taps, 174);
+    check(is_part(ringlog_value(three_taps, 296, root.digest, 32, 1), 7, 0, 0),
+          "the root of fewer values is 7");
+}
+
+static void check_proofs(void)
+{
+    struct ringlog_digest root = ringlog_root(three_taps, 296);
+    struct ringlog_digest first_two = ringlog_root(three_taps, 174);
+    uint8_t zeros[64] = {0};
+    uint8_t proof[65] = {0};
+
+    check(is_count(ringlog_proof(three_taps, 295, 0, proof, 0), 6, 0), "what does not open is 6");
+    check(is_count(ringlog_proof(three_taps, 296, 0, proof, 0), 2, 0), "index 0 is 2");
+    check(is_count(ringlog_proof(three_taps, 296, 4, proof, 0), 2, 0), "index n + 1 is 2");
+    check(is_count(ringlog_proof(three_taps, 296, 1, proof, 63), 8, 0), "64 bytes into 63 is 8");
+    check(memcmp(proof, zeros, 64) == 0, "a refused proof writes nothing");
+    check(is_count(ringlog_proof(three_taps, 296, 3, proof, 32), 0, 32), "value 3 has one sibling");
+    check(memcmp(proof, first_two.digest, 32) == 0, "it is the root of the first two");
+    check(ringlog_check_proof(3, 3, third_tap, 9, proof, 32, root.digest, 32),
+          "that proof of value 3 is accepted");
+    proof[64] = 0x5a;
+    check(is_count(ringlog_proof(three_taps, 296, 1, proof, 65), 0, 64),
+          "value 1 has two siblings");
+    check(proof[64] == 0x5a, "the rest of the output stays");
+    check(ringlog_check_proof(3, 1, first_tap, 9, proof, 64, root.digest, 32),
+          "that proof is accepted");
+    check(!ringlog_check_proof(3, 1, second_tap, 9, proof, 64, root.digest, 32),
+          "another tap is not");
+    check(!ringlog_check_proof(3, 2, first_tap, 9, proof, 64, root.digest, 32),
+          "another index is not");
+    check(!ringlog_check_proof(3, 0, first_tap, 9, proof, 64, root.digest, 32), "index 0 is not");
+    check(!ringlog_check_proof(3, 1, first_tap, 8, proof, 64, root.digest, 32),
+          "no value item is not");
+    check(!ringlog_check_proof(3, 1, first_tap, 9, proof, 63, root.digest, 32), "63 bytes are not");
+    check(!ringlog_check_proof(3, 1, first_tap, 9, proof, 65, root.digest, 32), "65 bytes are not");
+    check(!ringlog_check_proof(3, 1, first_tap, 9, proof, 64, root.digest, 31),
+          "a root of 31 bytes is not");
+    proof[63] ^= 1;
+    check(!ringlog_check_proof(3, 1, first_tap, 9, proof, 64, root.digest, 32),
+          "a bent byte is not");
 }
 
 int main(void)
@@ -153,6 +254,10 @@ int main(void)
     check_log_of_two_taps();
     check_stray_bytes();
     check_refused_appends();
+    append_three_taps();
+    check_cuts();
+    check_values();
+    check_proofs();
     printf("%d passed, %d failed\n", passed, failed);
     return failed == 0 ? 0 : 1;
 }

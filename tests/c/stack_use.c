@@ -7,6 +7,7 @@
 
 #include "ringlog.h"
 
+#include <stdbool.h>
 #include <stddef.h>
 #include <stdint.h>
 #include <stdio.h>
@@ -75,6 +76,9 @@ static uint8_t tap[TAP] = {0x10, 1, 2, 3, 4, 5, 6, 7, 8};
 static struct ringlog_digest digest;
 static struct ringlog_count count;
 static struct ringlog_extent extent;
+static struct ringlog_part part;
+static uint8_t proof[12 * 32];
+static bool accepted;
 
 static void call_nothing(void)
 {
@@ -98,6 +102,28 @@ static void call_audit(void)
 static void call_root(void)
 {
     digest = ringlog_root(buffer, used);
+}
+
+/* The ways to entry 1, which is the deepest. */
+static void call_cut(void)
+{
+    count = ringlog_cut(buffer, sizeof buffer, used, 1);
+}
+
+static void call_value(void)
+{
+    part = ringlog_value(buffer, used, digest.digest, sizeof digest.digest, 1);
+}
+
+static void call_proof(void)
+{
+    count = ringlog_proof(buffer, used, 1, proof, sizeof proof);
+}
+
+static void call_check_proof(void)
+{
+    accepted = ringlog_check_proof(4095, 1, tap, sizeof tap, proof, sizeof proof,
+                                   digest.digest, sizeof digest.digest);
 }
 
 /* A function that is known to take more than the limit. */
@@ -150,6 +176,14 @@ static void measure_log_calls(void)
     check(extent.entries == 4095 && extent.bytes == used, "that audit counts 4,095 taps");
     measure("root of 4,095 taps", call_root);
     check(digest.number == 0, "that root is answered");
+    measure("cut of 4,095 taps to 1", call_cut);
+    check(count.number == 0 && count.value == 52, "that cut is answered");
+    measure("checked value 1 of 4,095 taps", call_value);
+    check(part.number == 0 && part.offset == 5 && part.length == TAP, "that value is answered");
+    measure("proof of value 1 of 4,095 taps", call_proof);
+    check(count.number == 0 && count.value == sizeof proof, "that proof is answered");
+    measure("check of that proof", call_check_proof);
+    check(accepted, "that proof is accepted");
 }
 
 int main(void)

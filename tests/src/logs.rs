@@ -15,6 +15,22 @@ pub const LONGEST_LOG: usize = 2_097_152;
 /// What a byte is bent with: each bit alone, and all of them.
 pub const MASKS: [u8; 9] = [0x01, 0x02, 0x04, 0x08, 0x10, 0x20, 0x40, 0x80, 0xff];
 
+/// Counts of values of long logs: powers of two with their neighbours, one between, and the last but
+/// one.
+pub const LONG: [usize; 17] = [
+    127, 128, 129, 255, 256, 257, 511, 512, 513, 1_023, 1_024, 1_025, 2_047, 2_048, 2_049, 3_000,
+    4_095,
+];
+
+/// Indexes of a log of n values: powers of two with the numbers behind them, the last ones, and some
+/// others.
+pub fn indexes(n: usize, random: &mut Random) -> Vec<usize> {
+    let powers = (0..12).map(|p| 1 << p).flat_map(|i| [i, i + 1]);
+    let others: Vec<_> = (0..20).map(|_| 1 + random.up_to(n - 1)).collect();
+    let all = powers.chain([n - 1, n]).chain(others);
+    all.filter(|i| (1..=n).contains(i)).collect()
+}
+
 /// A value item of this kind with a random body.
 pub fn value_of(kind: u8, random: &mut Random) -> Vec<u8> {
     let body = random.bytes(body_len(kind).expect("a kind"));

@@ -1,4 +1,4 @@
-//! What is refused: bytes that do not open, and bytes that are no value item.
+//! What is refused: bytes that do not open, bytes that are no value item, and numbers above n.
 
 use crate::logs::{self, forged, taps};
 use crate::model::entry::MOST;
@@ -7,6 +7,17 @@ use crate::random::Random;
 
 /// Bytes with a name that says what they are.
 pub type Named = (String, Vec<u8>);
+
+/// Numbers above every count of entries. The lower 32 bits of some are an index that a log has.
+pub const FAR_ABOVE: [usize; 7] = [
+    4_097,
+    1 << 32,
+    (1 << 32) + 1,
+    (1 << 32) + 2,
+    (1 << 63) + 1,
+    !0 << 32,
+    usize::MAX,
+];
 
 /// Bytes that do not open.
 pub fn not_opening(random: &mut Random) -> Vec<Named> {

@@ -1,5 +1,7 @@
 //! The library, as include/ringlog.h declares it.
 
+use std::ops::Range;
+
 /// `struct ringlog_digest`: number 0 and the digest, or the number of a refusal and zero bytes.
 #[repr(C)]
 #[derive(Clone, Copy, Debug, PartialEq, Eq)]
@@ -22,6 +24,15 @@ pub struct Count {
 pub struct Extent {
     pub entries: u64,
     pub bytes: u64,
+}
+
+/// `struct ringlog_part`: number 0 and a part of the lent log, or the number of a refusal and zeros.
+#[repr(C)]
+#[derive(Clone, Copy, Debug, PartialEq, Eq)]
+pub struct Part {
+    pub number: u32,
+    pub offset: u64,
+    pub length: u64,
 }
 
 /// A digest or a refusal, as the library answers it.
@@ -54,6 +65,19 @@ impl From<(usize, usize)> for Extent {
     }
 }
 
+/// A part of a log or a refusal, as the library answers it.
+impl From<Result<Range<usize>, u32>> for Part {
+    fn from(answer: Result<Range<usize>, u32>) -> Self {
+        let number = answer.as_ref().err().copied().unwrap_or(0);
+        let part = answer.unwrap_or(0..0);
+        Part {
+            number,
+            offset: part.start as u64,
+            length: part.len() as u64,
+        }
+    }
+}
+
 extern "C" {
     fn ringlog_sha256(message: *const u8, message_len: usize) -> Digest;
     fn ringlog_append(
@@ -65,6 +89,31 @@ extern "C" {
     ) -> Count;
     fn ringlog_audit(bytes: *const u8, bytes_len: usize) -> Extent;
     fn ringlog_root(log: *const u8, log_len: usize) -> Digest;
+    fn ringlog_value(
+        log: *const u8,
+        log_len: usize,
+        root: *const u8,
+        root_len: usize,
+        index: usize,
+    ) -> Part;
+    fn ringlog_proof(
+        log: *const u8,
+        log_len: usize,
+        index: usize,
+        output: *mut u8,
+        output_len: usize,
+    ) -> Count;
+    fn ringlog_check_proof(
+        count: usize,
+        index: usize,
+        item: *const u8,
+        item_len: usize,
+        proof: *const u8,
+        proof_len: usize,
+        root: *const u8,
+        root_len: usize,
+    ) -> bool;
+    fn ringlog_cut(buffer: *mut u8, buffer_len: usize, used: usize, count: usize) -> Count;
 }
 
 // SAFETY, of each call below: a slice's pointer is not null, also for an empty slice, and is good
@@ -86,4 +135,29 @@ pub fn audit(bytes: &[u8]) -> Extent {
 
 pub fn root(log: &[u8]) -> Digest {
     unsafe { ringlog_root(log.as_ptr(), log.len()) }
+}
+
+pub fn value(log: &[u8], root: &[u8], index: usize) -> Part {
+    unsafe { ringlog_value(log.as_ptr(), log.len(), root.as_ptr(), root.len(), index) }
+}
+
+pub fn proof(log: &[u8], index: usize, output: &mut [u8]) -> Count {
+    let (start, len) = (output.as_mut_ptr(), output.len());
+    unsafe { ringlog_proof(log.as_ptr(), log.len(), index, start, len) }
+}
+
+pub fn check_proof(count: usize, index: usize, item: &[u8], proof: &[u8], root: &[u8]) -> bool {
+    let (item, item_len) = (item.as_ptr(), item.len());
+    let (proof, proof_len) = (proof.as_ptr(), proof.len());
+    let (root, root_len) = (root.as_ptr(), root.len());
+    unsafe {
+        ringlog_check_proof(
+            count, index, item, item_len, proof, proof_len, root, root_len,
+        )
+    }
+}
+
+pub fn cut(buffer: &mut [u8], used: usize, count: usize) -> Count {
+    let (start, len) = (buffer.as_mut_ptr(), buffer.len());
+    unsafe { ringlog_cut(start, len, used, count) }
 }

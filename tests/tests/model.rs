@@ -1,14 +1,18 @@
 //! The model against document 01's bench sheet, trees written out by hand, and digests from outside
 //! this project.
 
+use ringlog_tests::forged::Forged;
+use ringlog_tests::links::RUNNING_OUT;
 use ringlog_tests::model::entry::last_entry;
+use ringlog_tests::model::inclusion::{fold, hops};
 use ringlog_tests::model::item::{is_value, VALUES};
 use ringlog_tests::model::tree::{
     heights, leaf_digest, left_child, node_digest, right_child, Tree,
 };
+use ringlog_tests::model::walk::{bring_to, left_step, Met};
 use ringlog_tests::model::{self, Log};
 use ringlog_tests::random::Random;
-use ringlog_tests::{logs, refused};
+use ringlog_tests::{forged, links, logs, refused};
 
 fn hex(bytes: &[u8]) -> String {
     bytes.iter().map(|byte| format!("{byte:02x}")).collect()
@@ -70,6 +74,16 @@ fn the_roots_of_one_to_eight_values_are_those_of_the_trees_written_out() {
     }
 }
 
+/// Value k has the kind 0x10 + k mod 3, and every byte of its body is k.
+fn numbered_values(count: u8) -> Vec<Vec<u8>> {
+    let value = |k: u8| match k % 3 {
+        0 => [&[0x10][..], &[k; 8]].concat(),
+        1 => [&[0x11][..], &[k; 16]].concat(),
+        _ => [&[0x12][..], &[k; 48]].concat(),
+    };
+    (1..=count).map(value).collect()
+}
+
 /// The digests are from a program of its own, with the hash of Python's standard library.
 #[test]
 fn logs_of_22_values_are_byte_for_byte_those_of_another_program() {
@@ -82,15 +96,7 @@ fn logs_of_22_values_are_byte_for_byte_those_of_another_program() {
         hex(&log.root()),
         "5f962f0ce96df0e56665521c1aa680e258479a21757c9edd9d919769469307d0"
     );
-    // Value k has the kind 0x10 + k mod 3, and every byte of its body is k.
-    let mixed: Vec<_> = (1..=22)
-        .map(|k| match k % 3 {
-            0 => [&[0x10][..], &[k; 8]].concat(),
-            1 => [&[0x11][..], &[k; 16]].concat(),
-            _ => [&[0x12][..], &[k; 48]].concat(),
-        })
-        .collect();
-    let mut log = Log::of(&mixed);
+    let mut log = Log::of(&numbered_values(22));
     assert_eq!(
         hex(&model::sha256(log.bytes())),
         "9dc895be34cb7731893eee4c6dff469af00e7d8bc91b3399ba3605bd86ef2a21"
@@ -158,4 +164,139 @@ fn what_is_said_not_to_open_does_not_and_forged_entries_do() {
         let last = last_entry(&bytes).map(|entry| entry.index);
         assert_eq!(last, Some(index));
     }
+}
+
+#[test]
+fn hops_are_those_of_the_bench_sheet_and_of_every_path() {
+    let sheet = [
+        (22, 18, 4),
+        (7, 1, 3),
+        (7, 7, 2),
+        (7, 5, 3),
+        (1, 1, 0),
+        (4_096, 1, 12),
+    ];
+    for (n, i, expected) in sheet {
+        assert_eq!(hops(n, i), expected, "hops({n}, {i})");
+    }
+    let mut tree = Tree::default();
+    for n in 1..=300 {
+        tree.push(&[]);
+        for i in 1..=n {
+            assert_eq!(hops(n, i), tree.path(i).len(), "hops({n}, {i})");
+        }
+    }
+}
+
+#[test]
+fn the_paths_of_seven_values_are_those_of_the_tree_written_out() {
+    let paths: [&[(usize, u8)]; 7] = [
+        &[(2, 0), (4, 1), (7, 2)],
+        &[(1, 0), (4, 1), (7, 2)],
+        &[(4, 0), (2, 1), (7, 2)],
+        &[(3, 0), (2, 1), (7, 2)],
+        &[(6, 0), (7, 0), (4, 2)],
+        &[(5, 0), (7, 0), (4, 2)],
+        &[(6, 1), (4, 2)],
+    ];
+    let mut tree = Tree::default();
+    let values = numbered_values(7);
+    values.iter().for_each(|value| tree.push(value));
+    let log = Log::of(&values);
+    for (i, path) in (1..).zip(paths) {
+        let path: Vec<_> = path.iter().map(|&node| tree.digest(node)).collect();
+        assert_eq!(tree.path(i), path, "value {i}");
+        assert_eq!(fold(7, i, &values[i - 1], &path), tree.root(), "value {i}");
+        // The log's bytes tell the same way, and it ends in entry i.
+        let last = last_met(log.bytes());
+        let way = bring_to(log.bytes(), last, i).expect("a way");
+        assert_eq!(way.siblings, path, "value {i}");
+        assert_eq!(way.reached.entry.index, i, "value {i}");
+        assert_eq!(way.reached.offset, log.end(i - 1), "value {i}");
+        assert_eq!(way.reached.end(), log.end(i), "value {i}");
+    }
+}
+
+fn last_met(log: &[u8]) -> Met {
+    Met::last(log).expect("a last entry")
+}
+
+/// From (7, 3) to (4, 2), from there to (2, 1), and from there to the leaf (1, 0).
+#[test]
+fn the_left_steps_to_value_1_of_7_are_those_written_out() {
+    let mut log = Log::of(&numbered_taps(7)).bytes().to_vec();
+    let step = |log: &[u8], from: Met, h| left_step(log, &from, h);
+    let met = step(&log, last_met(&log), 3).expect("entry 4");
+    assert_eq!((met.offset, met.entry.index), (296, 4));
+    let met = step(&log, met, 2).expect("entry 2");
+    assert_eq!((met.offset, met.entry.index), (52, 2));
+    let met = step(&log, met, 1).expect("entry 1");
+    assert_eq!((met.offset, met.entry.index), (0, 1));
+    // Entry 4 begins at 296; its nodes' own digests are at 381 and 451.
+    log[451] ^= 0x01;
+    assert_eq!(step(&log, last_met(&log), 3).err(), Some(7));
+    log[296] ^= 0x01;
+    assert_eq!(step(&log, last_met(&log), 3).err(), Some(6));
+    log[451] ^= 0x01;
+    assert_eq!(step(&log, last_met(&log), 3).err(), Some(6));
+}
+
+#[test]
+fn every_path_folds_to_the_root_of_the_tree_and_is_the_proof_that_the_log_gives() {
+    let mut random = Random::new(6);
+    let mut log = Log::default();
+    for n in 1..=130 {
+        log.push(&logs::value(&mut random));
+        for i in 1..=n {
+            let (path, root) = (log.path(i), log.root());
+            assert_eq!(fold(n, i, log.value(i), &path), root, "{i} of {n}");
+            let mut proof = vec![0; 32 * hops(n, i)];
+            let written = model::proof(log.bytes(), i, &mut proof);
+            assert_eq!(written, Ok(proof.len()), "{i} of {n}");
+            assert_eq!(proof, path.concat(), "{i} of {n}");
+            let value = model::value(log.bytes(), &root, i).map(|part| &log.bytes()[part]);
+            assert_eq!(value, Ok(log.value(i)), "{i} of {n}");
+            assert_eq!(model::cut(log.bytes(), log.end(n), i), Ok(log.end(i)));
+        }
+    }
+}
+
+/// The digests are from a program of its own, with the hash of Python's standard library, which
+/// splits lists of values and knows no bytes of a log.
+#[test]
+fn the_proofs_of_22_values_are_byte_for_byte_those_of_another_program() {
+    let proofs = |values: &[Vec<u8>]| {
+        let mut log = Log::of(values);
+        let paths: Vec<_> = (1..=22).flat_map(|i| log.path(i)).collect();
+        hex(&model::sha256(&paths.concat()))
+    };
+    assert_eq!(
+        proofs(&numbered_taps(22)),
+        "8ac6909bf117040aec4b7138a227c7f554af1a2af0caa1f0c802e175380a7583"
+    );
+    assert_eq!(
+        proofs(&numbered_values(22)),
+        "93d911353e9eb61d2191ee423b7a060167e1a1545185500313c3ce7099d5bd16"
+    );
+}
+
+/// Forged logs open, their links hold where they are said to, and no digest in them is true.
+#[test]
+fn forged_logs_are_what_they_are_said_to_be() {
+    let mut random = Random::new(7);
+    for n in 1..=40 {
+        let log = logs::log(n, &mut random);
+        assert!(Forged::of(&log).bytes() == log.bytes(), "{n} values");
+        let invented = forged::invented(n, 2, &mut random).spread(9, &mut random);
+        let bytes = invented.bytes();
+        assert_eq!(model::audit(&bytes), (0, 0), "{n} values");
+        for i in 1..=n {
+            let end = model::cut(&bytes, bytes.len(), i);
+            assert_eq!(end, Ok(invented.end(i)), "{i} of {n}");
+        }
+    }
+    let bytes = links::overlapping(&mut random);
+    assert_eq!(model::cut(&bytes, bytes.len(), 2), Ok(124));
+    let bytes = links::running_out(&mut random);
+    assert_eq!(model::cut(&bytes, RUNNING_OUT, 2), Err(6));
 }
