@@ -13,8 +13,7 @@ use Rattle.entry.specs.Siblings.{Arrives, siblings}
 use Rattle.entry.specs.Write.{writeAt}
 use Rattle.slate.proofs.Descent.{moves-left, moves-none, moves-right}
 use Rattle.entry.proofs.PathSiblings.{arrives-left, arrives-none, arrives-right, left-inside, siblings-left, siblings-length, siblings-none, siblings-right}
-use Rattle.entry.proofs.Windows as windows
-use Rattle.entry.proofs.Windows.{digest-size}
+use Rattle.entry.proofs.Windows.{digest-size, left-digest-size}
 use Rattle.entry.proofs.Writes.{write-both}
 
 -- what is asked: the entry lies inside b, every step to the leaf at t holds, and n bytes are room for the siblings
@@ -56,13 +55,13 @@ module _ {b : List ℕ} {o x p h t n : ℕ} (w : Node b o x p h t n) where
   node-room : 32 * hopsFrom x (suc p) t ≤ n
   node-room = room b o x p h t n (w .next) (w .ready)
 
-  -- both of its digests have 32 bytes
-  pub own-digest-size : (s : List ℕ) → s ≡ digestAt b o x p → length s ≡ 32
-  own-digest-size s es = ap length es ∙ digest-size b o x p (omega (arith, w .next, w .ready .1 .0)) (w .ready .0)
+  -- either sibling has 32 bytes
+  pub right-sibling-size : (s : List ℕ) → s ≡ digestAt b o x p → length s ≡ 32
+  right-sibling-size s es = ap length es ∙ digest-size b o x p (omega (arith, w .next, w .ready .1 .0)) (w .ready .0)
 
-  pub left-digest-size : (s : List ℕ) → s ≡ leftDigestAt b o x p → length s ≡ 32
-  left-digest-size s es =
-      ap length es ∙ windows.left-digest-size b o x p (omega (arith, w .next, w .ready .1 .0)) (w .set) (w .ready .0)
+  pub left-sibling-size : (s : List ℕ) → s ≡ leftDigestAt b o x p → length s ≡ 32
+  left-sibling-size s es =
+      ap length es ∙ left-digest-size b o x p (omega (arith, w .next, w .ready .1 .0)) (w .set) (w .ready .0)
 
   -- a sibling behind those of the entry at position y that begins at l
   more : (l y : ℕ) → Ready b l y p t n → hopsFrom x (suc p) t ≡ suc (hopsFrom y p t)
@@ -95,7 +94,7 @@ module _ {b : List ℕ} {o x p h t n : ℕ} (w : Node b o x p h t n) where
     pub laid-right : (s out : List ℕ) → s ≡ leftDigestAt b o x p → length out ≡ n → (r : ℕ) (e f : List ℕ)
         → Laid b o x p t out r e → f ≡ writeAt e r s → Laid b o x h t out (r + 32) f
     laid-right s out es long r e f below written =
-        more o x ready-right (moves-right x p t (w .set) q) s (left-digest-size s es)
+        more o x ready-right (moves-right x p t (w .set) q) s (left-sibling-size s es)
         (siblings-right b o x p t (w .set) q ∙ ap (λ (m : List ℕ). siblings b o x p t ++ m) (sym es))
         out long r e f below written
 
@@ -120,6 +119,6 @@ module _ {b : List ℕ} {o x p h t n : ℕ} (w : Node b o x p h t n) where
     pub laid-left : (s out : List ℕ) → s ≡ digestAt b o x p → length out ≡ n → (r : ℕ) (e f : List ℕ)
         → Laid b l y p t out r e → f ≡ writeAt e r s → Laid b o x h t out (r + 32) f
     laid-left s out es long r e f below written =
-        more l y ready-left left-moves s (own-digest-size s es)
+        more l y ready-left left-moves s (right-sibling-size s es)
         (siblings-left b o x p t (w .set) q ∙ rw (el, ey, es))
         out long r e f below written

@@ -55,9 +55,11 @@ pub value-bound : claims.ValueBound
 unfolding payloadAt
 value-bound b r i =
     by-value b r i
-    (λ p. p .number ≡ 0 → (o : ℕ) × (n : ℕ) × (proof : List ℕ) × (openedLog b ≡ opened.Log o n) × Included n i (partOf b p) proof r)
+    (λ p.
+    p .number ≡ 0
+    → (o : ℕ) × (n : ℕ) × (openedLog b ≡ opened.Log o n) × Included n i (partOf b p) (siblings b o (n - 1) maxHeight (i - 1)) r)
     (λ k f z. absurd (f z))
-    (λ l h z. (h .start, h .count, siblings b (h .start) (h .count - 1) maxHeight (i - 1), h .there .opens, held-included b r i l h))
+    (λ l h z. (h .start, h .count, h .there .opens, held-included b r i l h))
 
 pub value-refused : claims.ValueRefused
 unfolding part

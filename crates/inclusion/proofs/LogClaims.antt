@@ -1,16 +1,18 @@
 -- On a well-formed log: the checked value is the value, and the proof is the path, which the checker accepts.
 -- Assumes nothing.
-use mathlib.Core.List.{List, []}
+use mathlib.Core.List.{List, [], _++_}
 use mathlib.Core.Path.{_≡_, refl, ap, _∙_}
-use Prim.Native.Nat.{ℕ, _-_, _≤_}
+use Prim.Native.Nat.{ℕ, _+_, _*_, _-_, _≤_}
 use native.Mathlib.Omega.{arith}
-use lib.ListN.{length, getD}
+use lib.ListN.{length, getD, drop}
 use Rattle.slate.specs.Length.{offset}
+use Rattle.slate.specs.Moves.{hops}
 use Rattle.slate.specs.Path.{path}
 use Rattle.slate.specs.Tree.{root, slate}
 use Rattle.entry.specs.Log.{Values, log}
 use Rattle.entry.specs.Read.{payloadAt}
-use Rattle.ringlog.specs.Answer.{answer, counted, written}
+use Rattle.entry.specs.Write.{writeAt}
+use Rattle.ringlog.specs.Answer.{counted, written}
 use Rattle.inclusion.specs.Claims as claims
 use Rattle.inclusion.specs.Value.{checkedValue, foldAt, itemPart, partOf}
 use Rattle.slate.proofs.Inclusion.{inclusion-complete, inclusion-length}
@@ -49,10 +51,12 @@ value-of-log vs i ok first high =
     (answered vs i ok first high, ap (partOf (log vs)) (answered vs i ok first high) ∙ value-there vs i ok first high)
 
 pub proof-of-log : claims.ProofOfLog
-proof-of-log vs i room ok first high fits =
-    let e = proof-reached (there vs i ok first high) room _ refl fits _ (found vs i ok first high)
+unfolding writeAt
+proof-of-log vs i out ok first high fits =
+    let e = proof-reached (there vs i ok first high) (length out) _ refl fits _ (found vs i ok first high)
     ∙ ap written (siblings-read vs (log vs) (holds-self vs ok) i first high) in
-    (e, ap (answer 0) e ∙ ap counted (omega (arith, inclusion-length slate vs i first high (ok .few))))
+    let size : 0 + length (path slate vs i) ≡ 32 * hops (length vs) i = omega (arith, inclusion-length slate vs i first high (ok .few)) in
+    rw e (ap counted size, ap (λ (n : ℕ). path slate vs i ++ drop n out) size)
 
 pub proof-accepted : claims.ProofAccepted
 proof-accepted vs i ok first high =

@@ -1,9 +1,9 @@
 -- What is claimed of the calls of this crate, in document 01's terms: each claim is a type, and proofs/ has its proof.
 use mathlib.Core.Bool.{true}
-use mathlib.Core.List.{List, []}
+use mathlib.Core.List.{List, [], _++_}
 use mathlib.Core.Path.{_≡_}
 use Prim.Native.Nat.{ℕ, _*_, _-_, _^_, _≤_}
-use lib.ListN.{length, getD}
+use lib.ListN.{length, getD, drop}
 use Rattle.slate.specs.Digits.{maxHeight}
 use Rattle.slate.specs.Length.{offset}
 use Rattle.slate.specs.Moves.{hops}
@@ -12,6 +12,7 @@ use Rattle.slate.specs.Tree.{root, slate}
 use Rattle.entry.specs.Kind.{isItem}
 use Rattle.entry.specs.Log.{Values, log}
 use Rattle.entry.specs.Shape.{openedLog}
+use Rattle.entry.specs.Siblings.{siblings}
 use Rattle.entry.specs.declared.Opened.the-variants as opened
 use Rattle.ringlog.specs.Answer.{after, answer, counted, written}
 use Rattle.inclusion.specs.Check.{proofHolds}
@@ -45,12 +46,12 @@ ValueOfLog =
     → (checkedValue (log vs) (root slate vs) i ≡ itemPart (log vs) (offset vs (i - 1)))
     × (partOf (log vs) (checkedValue (log vs) (root slate vs) i) ≡ getD vs (i - 1) [])
 
--- with room, the proof is the path of the tree of its values, 32·hops bytes; the rest of the output stays
+-- with room, the proof answers 32·hops and writes the path of the tree of its values; the rest of the output stays
 abbrev pub ProofOfLog : Type 0
 ProofOfLog =
-    (vs : List (List ℕ)) (i room : ℕ) → Values vs → 1 ≤ i → i ≤ length vs → 32 * hops (length vs) i ≤ room
-    → (proofOf (log vs) i room ≡ written (path slate vs i))
-    × (answer 0 (proofOf (log vs) i room) ≡ counted (32 * hops (length vs) i))
+    (vs : List (List ℕ)) (i : ℕ) (out : List ℕ) → Values vs → 1 ≤ i → i ≤ length vs → 32 * hops (length vs) i ≤ length out
+    → (answer 0 (proofOf (log vs) i (length out)) ≡ counted (32 * hops (length vs) i))
+    × (after out 0 (proofOf (log vs) i (length out)) ≡ path slate vs i ++ drop (32 * hops (length vs) i) out)
 
 -- and the checker accepts it with that value and root
 abbrev pub ProofAccepted : Type 0
@@ -60,12 +61,13 @@ ProofAccepted =
 
 -- ---- on any bytes
 
--- what is read out is what the root binds: a checked value that answers is, with some proof, included under the lent root as value i of
--- as many values as the log has
+-- what is read out is what the root binds: a checked value that answers is included under the lent root, as value i of as many values
+-- as the log has, and the siblings that the log stores on its path are the proof
 abbrev pub ValueBound : Type 0
 ValueBound =
     (b r : List ℕ) (i : ℕ) → checkedValue b r i .number ≡ 0
-    → (o : ℕ) × (n : ℕ) × (proof : List ℕ) × (openedLog b ≡ opened.Log o n) × Included n i (partOf b (checkedValue b r i)) proof r
+    → (o : ℕ) × (n : ℕ) × (openedLog b ≡ opened.Log o n)
+    × Included n i (partOf b (checkedValue b r i)) (siblings b o (n - 1) maxHeight (i - 1)) r
 
 -- a refused value is the empty part
 abbrev pub ValueRefused : Type 0

@@ -12,7 +12,7 @@ use Rattle.slate.proofs.Cases.{digit-set}
 use Rattle.slate.proofs.digits.base.Reads as base-reads
 use Rattle.slate.proofs.digits.digit.Reads as digit-reads
 use Rattle.slate.proofs.digits.left.Reads as left-reads
-use Rattle.entry.proofs.PathForms.{Node, laid-leaf, laid-left, laid-none, laid-right, left-digest-size, own-digest-size, ready-left, ready-none, ready-right, room-left, room-right}
+use Rattle.entry.proofs.PathForms.{Node, laid-leaf, laid-left, laid-none, laid-right, left-sibling-size, ready-left, ready-none, ready-right, right-sibling-size, room-left, room-right}
 use Rattle.entry.proofs.layout.digest_at.Reads as digest-at-reads
 use Rattle.entry.proofs.layout.left_digest_at.Reads as left-digest-at-reads
 use Rattle.entry.proofs.layout.left_offset_at.Reads as left-offset-at-reads
@@ -107,7 +107,7 @@ room-2 t c = room-right (node t (c .before .before .before .before .before .befo
 put-bytes-requires : (t : ℕ) → put-siblings-lts.Need-put-bytes-requires (claims t) (put-siblings-at t) put-siblings.Post
 put-bytes-requires t c κs =
     let below = c .before .before in
-    omega (arith, room-2 t below, left-digest-size (node t (below .before .before .before .before .before .before)) _ (c .left-digest-at .ensures))
+    omega (arith, room-2 t below, left-sibling-size (node t (below .before .before .before .before .before .before)) _ (c .left-digest-at .ensures))
 
 add-result : (t : ℕ) → put-siblings-lts.Need-add-result (claims t) (put-siblings-at t) put-siblings.Post
 add-result t c = omega (arith, room-2 t (c .before .before .before .before .before))
@@ -151,7 +151,7 @@ put-bytes-requires-2 : (t : ℕ) → put-siblings-lts.Need-put-bytes-requires-2 
 put-bytes-requires-2 t c κs =
     let below = c .before .before in
     let w = node t (below .before .before .before .before .before .before .before .before) in
-    omega (arith, room-3 t below, own-digest-size w _ (c .digest-at .ensures))
+    omega (arith, room-3 t below, right-sibling-size w _ (c .digest-at .ensures))
 
 add-result-2 : (t : ℕ) → put-siblings-lts.Need-add-result-2 (claims t) (put-siblings-at t) put-siblings.Post
 add-result-2 t c = omega (arith, room-3 t (c .before .before .before .before .before))
