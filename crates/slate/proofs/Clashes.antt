@@ -10,7 +10,7 @@ use Rattle.sha256.specs.Fips180.{sha256}
 use Rattle.slate.specs.Address.{HasNode, input}
 use Rattle.slate.specs.Claims as claims
 use Rattle.slate.specs.Clash.{Clash, Same}
-use Rattle.slate.specs.Digits.{base, digit, left}
+use Rattle.slate.specs.Digits.{base, left}
 use Rattle.slate.specs.Tree.{Rule, top}
 use Rattle.slate.proofs.Bits.{base-zero, left-base, left-lt, left-pred, no-left}
 use Rattle.slate.proofs.Cases.{by-digit, by-equal, by-order}
@@ -51,13 +51,11 @@ module _ (pre : Rule) (vs ws : List (List ℕ)) where
       append-inj 32 (top pre vs (left x p) p) (top pre vs x p) (top pre ws (left x p) p) (top pre ws x p)
       (top-length pre vs (left x p) p) (top-length pre ws (left x p) p) (cc)
 
-  -- a node's values are those of its children
-  join : (x p : ℕ) → digit x p ≡ 1 → Same (base (left x p) p) (suc (left x p)) vs ws ⊎ Clash pre vs ws
-      → Same (base x p) (suc x) vs ws ⊎ Clash pre vs ws → Same (base x (suc p)) (suc x) vs ws ⊎ Clash pre vs ws
-  join x p d (inr c) t = inr c
-  join x p d (inl s) (inr c) = inr c
-  join x p d (inl s) (inl t) =
-      inl (λ k a b. by-order k (base x p) (λ l. s k (omega (arith, left-base x p d)) (omega (arith, left-pred x p d))) (λ l. t k l b))
+-- the same values in two runs end to end
+pub same-joined : {C : Type 0} (vs ws : List (List ℕ)) (a m e : ℕ) → Same a m vs ws ⊎ C → Same m e vs ws ⊎ C → Same a e vs ws ⊎ C
+same-joined vs ws a m e (inr c) t = inr c
+same-joined vs ws a m e (inl s) (inr c) = inr c
+same-joined vs ws a m e (inl s) (inl t) = inl (λ k low high. by-order k m (λ l. s k low l) (λ l. t k l high))
 
 -- one digest of the highest nodes of height at most h: the same values below them, or a clash
 pub tops-values : claims.EqualTops
@@ -70,7 +68,9 @@ tops-values pre vs ws x (suc p) lv lw e =
     by-digit x p
     (λ d. ⊎-elim (λ s. inl (λ k a b. s k (omega (arith, no-left x p d)) b)) inr (tops-values pre vs ws x p lv lw (rw d at e)))
     (λ d. by-equal (input pre vs x (suc p)) (input pre ws x (suc p))
-    (λ q. join pre vs ws x p d
-    (tops-values pre vs ws (left x p) p (omega (arith, left-lt x p d)) (omega (arith, left-lt x p d)) (same-node pre vs ws x p q .0))
+    (λ q.
+    let l =
+    tops-values pre vs ws (left x p) p (omega (arith, left-lt x p d)) (omega (arith, left-lt x p d)) (same-node pre vs ws x p q .0) in
+    same-joined vs ws (base x (suc p)) (base x p) (suc x) (rw (left-base x p d, left-pred x p d) at l)
     (tops-values pre vs ws x p lv lw (same-node pre vs ws x p q .1)))
     (λ n. inr (clash-at pre vs ws x (suc p) lv lw d n (rw d at e))))

@@ -6,6 +6,7 @@ pub mod Clashes
 pub mod CodeForms
 pub mod Comparisons
 pub mod Descent
+pub mod Differences
 pub mod FoldForms
 pub mod Formulas
 pub mod HighestBit

@@ -8,6 +8,7 @@ use lib.ListN.{length, getD}
 use Rattle.slate.specs.Address.{HasNode, Node, Present, digestOf, firstLeaf, hashInput, highest, leavesFrom, leftChild, nodes, rightHeight}
 use Rattle.slate.specs.Clash.{Clash, Same}
 use Rattle.slate.specs.Comparison.{byLength, compared, differAt}
+use Rattle.slate.specs.Difference.{differingLeaf}
 use Rattle.slate.specs.Digits.{base, digit, maxHeight, onesBelow}
 use Rattle.slate.specs.Length.{entryLen}
 use Rattle.slate.specs.Moves.{hops, hopsFrom, lefts, leftsFrom, splitBit}
@@ -97,6 +98,26 @@ abbrev pub EqualTops : Type 0
 EqualTops =
     (pre : Rule) (vs ws : List (List ℕ)) (x h : ℕ) → x < length vs → x < length ws → top pre vs x h ≡ top pre ws x h
     → Same (base x h) (suc x) vs ws ⊎ Clash pre vs ws
+
+-- ---- the leaf under unequal tops to which the digests lead
+
+-- it is one of the leaves under them
+abbrev pub LeafUnder : Type 0
+LeafUnder =
+    (pre : Rule) (vs ws : List (List ℕ)) (x h : ℕ)
+    → (base x h ≤ differingLeaf pre vs ws x h) × (differingLeaf pre vs ws x h ≤ x)
+
+-- its values differ, whatever digests agree
+abbrev pub LeafDiffers : Type 0
+LeafDiffers =
+    (pre : Rule) (vs ws : List (List ℕ)) (x h : ℕ) → (top pre vs x h ≡ top pre ws x h → ⊥)
+    → getD vs (differingLeaf pre vs ws x h) [] ≡ getD ws (differingLeaf pre vs ws x h) [] → ⊥
+
+-- it is the first of them whose values differ, or there is a clash at an address of both
+abbrev pub LeafFirst : Type 0
+LeafFirst =
+    (pre : Rule) (vs ws : List (List ℕ)) (x h : ℕ) → x < length vs → x < length ws
+    → Same (base x h) (differingLeaf pre vs ws x h) vs ws ⊎ Clash pre vs ws
 
 -- ---- inclusion, for 1 ≤ i ≤ n ≤ 4,096
 

@@ -4,6 +4,7 @@ pub mod Bytes
 pub mod Claims
 pub mod Clash
 pub mod Comparison
+pub mod Difference
 pub mod Digits
 pub mod Length
 pub mod Moves
