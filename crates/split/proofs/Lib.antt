@@ -1,0 +1,10 @@
+pub mod AnswerForms
+pub mod AnyBytes
+pub mod Brought
+pub mod DownForms
+pub mod Downs
+pub mod LocateForms
+pub mod LogDowns
+pub mod LogSearch
+pub mod Repairs
+pub mod Searches

@@ -1,0 +1,63 @@
+-- A log that does not open, one that is empty, and two that are not.
+-- Assumes nothing.
+use mathlib.Core.Path.{_≡_, sym, _∙_}
+use native.Mathlib.Omega.{arith}
+use borrow.Author.Needs.{needs}
+use Rattle.entry.specs.Shape.{openedLog}
+use Rattle.entry.specs.declared.Opened.the-variants as opened
+use Rattle.split.proofs.LocateForms.{both-opened, first-unopened, one-empty, second-unopened}
+use Rattle.split.proofs.locate.locate.Statement.{statement}
+use Rattle.split.proofs.locate.locate.Tie as tie
+
+-- what opening answers
+first-opens : (c : tie.After-known-told)
+    → let g = c .before .first-last .given .0 in
+    openedLog (c .before .before .before .before .before .before .args .first .now) ≡ opened.Log (g .0) (g .1 .0)
+first-opens c = sym (c .before .before .before .open-log .ensures) ∙ c .before .first-last .given .1
+
+second-opens : (c : tie.After-known-told2)
+    → let g = c .before .second-last .given .0 in
+    openedLog (c .before .before .before .before .before .before .before .before .before .before .args .second .now) ≡ opened.Log (g .0) (g .1 .0)
+second-opens c = sym (c .before .before .before .open-log2 .ensures) ∙ c .before .second-last .given .1
+
+returns : tie.Need-returns
+returns c = first-unopened _ _ (sym (c .before .before .open-log .ensures) ∙ c .enum-told .given .1)
+
+returns-2 : tie.Need-returns-2
+returns-2 c =
+    second-unopened _ _ _ _ (first-opens (c .before .before .before))
+    (sym (c .before .before .open-log2 .ensures) ∙ c .enum-told2 .given .1)
+
+returns-3 : tie.Need-returns-3
+returns-3 c =
+    let n = c .before .before .before in
+    let s = n .before .before in
+    one-empty _ _ _ _ (first-opens (s .before .before .before .before)) _ _ (second-opens s)
+    (sym (n .before .smaller .ensures) ∙ n .if1 .taken)
+    _ _ _ (c .before .before .by-length .ensures) (c .before .opening-reads .ensures) (c .opening-reads2 .ensures)
+
+locate-from-requires : tie.Need-locate-from-requires
+locate-from-requires c κs =
+    let s = c .before .before in
+    let n = c .before .smaller .ensures in (
+      (first-opens (s .before .before .before .before), omega (arith, n, c .if1 .left)),
+      (second-opens s, omega (arith, n, c .if1 .left)),
+    )
+
+returns-4 : tie.Need-returns-4
+returns-4 c = let s =
+    c .before .before .before in both-opened _ _ _ _ (first-opens (s .before .before .before .before)) _ _ (second-opens s) _
+    (c .locate-from .ensures)
+
+pub locate-spec : {M : Type 1} → statement M
+locate-spec =
+    tie.close
+    (tie.spec
+    (λ c κs. search needs) (λ c. search needs) (λ c. search needs)
+    returns
+    (λ c κs. search needs) (λ c. search needs) (λ c. search needs)
+    returns-2
+    (λ c κs. search needs) (λ c κs. search needs) (λ c κs. search needs) (λ c κs. search needs)
+    returns-3
+    locate-from-requires
+    returns-4)

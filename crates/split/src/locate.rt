@@ -1,0 +1,189 @@
+// The search for the split of two logs: what the search answers, and where the repair piece starts.
+// All functions here are internal.
+ghost use mathlib.Core.Path.{_≡_};
+ghost use Prim.Native.Nat.{_+_, _≤_, _<_, min};
+ghost use Rattle.slate.specs.Comparison.{byLength};
+ghost use Rattle.slate.specs.Digits.{maxHeight};
+ghost use Rattle.entry.specs.Shape.{Inside, openedLog};
+ghost use Rattle.entry.specs.declared.Opened.the-variants as opened;
+ghost use Rattle.split.specs.Located.{locatedAt, locatedOf, openingReads, toVerdict};
+ghost use Rattle.split.specs.Search.{opening, searchFrom, searched};
+use crate::Down;
+use crate::Located;
+use crate::Side;
+use crate::Tally;
+use crate::Verdict;
+use crate::below::down;
+use entry::Cause;
+use entry::Opened;
+use entry::Walk;
+use entry::compare::same_bytes;
+use entry::layout::digest_at;
+use entry::layout::entry_len_at;
+use entry::opening::open_log;
+use entry::steps::descend;
+use slate::digits::MAX_HEIGHT;
+
+fn smaller(m: u32, k: u32) -> u32
+    ensures { λ r. ⌜ r ≡ min m k ⌝ }
+{
+    if m < k {
+        return m;
+    }
+    k
+}
+
+// The verdict where no value differs.
+fn by_length(m: u32, k: u32) -> Verdict
+    ensures { λ r. ⌜ r ≡ toVerdict (byLength m k) ⌝ }
+{
+    if m == k {
+        return Verdict::Same;
+    }
+    if m < k {
+        return Verdict::FirstShorter;
+    }
+    Verdict::SecondShorter
+}
+
+// Opening a log that is not empty is one read.
+fn opening_reads(count: u32) -> u32
+    ensures { λ r. ⌜ r ≡ openingReads count ⌝ }
+{
+    if count == 0 {
+        return 0;
+    }
+    1
+}
+
+// Both logs stand at the entry at this position: equal tops, or down to the leaf of the difference.
+fn locate_at(first: &[u8], second: &[u8], position: u32, a: Tally, b: Tally) -> Located
+    requires { ⌜ Inside (now first) (a .end) position ⌝ }
+    requires { ⌜ Inside (now second) (b .end) position ⌝ }
+    requires { ⌜ (a .reads ≤ 1 + maxHeight) × (b .reads ≤ 1 + maxHeight) ⌝ }
+    ensures { λ r. ⌜ r ≡ locatedAt (now (first .entry)) (now (second .entry)) position a b ⌝ }
+{
+    let first_top = digest_at(first, a.end, position, MAX_HEIGHT);
+    let second_top = digest_at(second, b.end, position, MAX_HEIGHT);
+    if same_bytes(first_top, second_top) {
+        let first_length = entry_len_at(first, a.end, position);
+        let second_length = entry_len_at(second, b.end, position);
+        return Located::Found {
+            common: position + 1,
+            verdict: by_length(a.count, b.count),
+            first: Tally {
+                count: a.count,
+                reads: a.reads,
+                end: a.end + first_length,
+            },
+            second: Tally {
+                count: b.count,
+                reads: b.reads,
+                end: b.end + second_length,
+            },
+        };
+    }
+    match down(first, second, a.end, b.end, position, MAX_HEIGHT) {
+        Down::Refused(side, cause) => Located::Refused(side, cause),
+        Down::Leaf {
+            position: leaf,
+            first: first_leaf,
+            second: second_leaf,
+            first_reads,
+            second_reads,
+        } => Located::Found {
+            common: leaf,
+            verdict: Verdict::DifferAt(leaf as usize + 1),
+            first: Tally {
+                count: a.count,
+                reads: a.reads + first_reads,
+                end: first_leaf,
+            },
+            second: Tally {
+                count: b.count,
+                reads: b.reads + second_reads,
+                end: second_leaf,
+            },
+        },
+    }
+}
+
+// Both logs are open and not empty: the first is brought to entry n, then the second.
+fn locate_from(
+    first: &[u8],
+    second: &[u8],
+    first_last: usize,
+    m: u32,
+    second_last: usize,
+    k: u32,
+) -> Located
+    requires { ⌜ (openedLog (now first) ≡ opened.Log «first_last» m) × (0 < m) ⌝ }
+    requires { ⌜ (openedLog (now second) ≡ opened.Log «second_last» k) × (0 < k) ⌝ }
+    ensures { λ r. ⌜ r ≡ locatedOf (searchFrom (now (first .entry)) (now (second .entry)) (min m k) (opening «first_last» m) (opening «second_last» k)) ⌝ }
+{
+    let position = smaller(m, k) - 1;
+    match descend(first, first_last, m - 1, MAX_HEIGHT, position) {
+        Walk::Refused(cause) => Located::Refused(Side::First, cause),
+        Walk::Arrived {
+            start: first_at,
+            reads: first_steps,
+        } => match descend(second, second_last, k - 1, MAX_HEIGHT, position) {
+            Walk::Refused(cause) => Located::Refused(Side::Second, cause),
+            Walk::Arrived {
+                start: second_at,
+                reads: second_steps,
+            } => locate_at(
+                first,
+                second,
+                position,
+                Tally {
+                    count: m,
+                    reads: 1 + first_steps,
+                    end: first_at,
+                },
+                Tally {
+                    count: k,
+                    reads: 1 + second_steps,
+                    end: second_at,
+                },
+            ),
+        },
+    }
+}
+
+// Both logs are opened, the first before the second.
+pub fn locate(first: &[u8], second: &[u8]) -> Located
+    ensures { λ r. ⌜ r ≡ locatedOf (searched (now (first .entry)) (now (second .entry))) ⌝ }
+{
+    let Opened::Log {
+        start: first_last,
+        count: m,
+    } = open_log(first)
+    else {
+        return Located::Refused(Side::First, Cause::Shape);
+    };
+    let Opened::Log {
+        start: second_last,
+        count: k,
+    } = open_log(second)
+    else {
+        return Located::Refused(Side::Second, Cause::Shape);
+    };
+    if smaller(m, k) == 0 {
+        return Located::Found {
+            common: 0,
+            verdict: by_length(m, k),
+            first: Tally {
+                count: m,
+                reads: opening_reads(m),
+                end: 0,
+            },
+            second: Tally {
+                count: k,
+                reads: opening_reads(k),
+                end: 0,
+            },
+        };
+    }
+    locate_from(first, second, first_last, m, second_last, k)
+}
