@@ -2,17 +2,19 @@
 -- Assumes nothing.
 use mathlib.Core.List.{List, []}
 use mathlib.Core.Path.{_≡_, refl, ap₂, _∙_}
-use Prim.Native.Nat.{ℕ, zero, suc, _-_, _^_, _≤_, _<_}
+use Prim.Native.Nat.{ℕ, zero, suc, _+_, _*_, _-_, _%_, _^_, _≤_, _<_}
+use native.Mathlib.Nat.{mod-lt, mod-one, pow-suc}
 use native.Mathlib.Omega.{arith}
+use lib.Count.{leadingZeros, leading-unique}
 use lib.ListN.{length, getD, length-append, List·getD-append}
-use lib.Pow.{pow-mono}
+use lib.Pow.{pow-mono, pow-pos}
 use lib.Seq.{getD-at}
 use Rattle.sha256.specs.Fips180.{sha256}
 use Rattle.slate.specs.Address.{HasNode, Node, highest, input, nodesBelow}
 use Rattle.slate.specs.Claims as claims
 use Rattle.slate.specs.Digits.{base, digit, left, maxHeight, onesBelow}
 use Rattle.slate.specs.Tree.{Rule, nodeInput, top}
-use Rattle.slate.proofs.Bits.{base-le, left-pos, left-present, onesBelow-mono, whole-base}
+use Rattle.slate.proofs.Bits.{base-le, left-pos, left-present, mod-step, onesBelow-mono, whole-base}
 use Rattle.slate.proofs.Cases.{by-digit, by-order}
 use Rattle.slate.proofs.Tops.{root-top, top-highest}
 
@@ -23,10 +25,46 @@ unfolding highest
 highest-le x zero = omega arith
 highest-le x (suc p) = by-digit x p (λ d. rw d (omega (arith, highest-le x p))) (λ d. rw d (omega arith))
 
+-- of the digits below p + 1 the highest that is set is p or one below p
+pub highest-none : (x p : ℕ) → digit x p ≡ 0 → highest x (suc p) ≡ highest x p
+unfolding highest
+highest-none x p d = rw d
+
+pub highest-here : (x p : ℕ) → digit x p ≡ 1 → highest x (suc p) ≡ suc p
+unfolding highest
+highest-here x p d = rw d
+
+-- it is the number of digits of x below h, without leading zeros
+highest-length : (x h : ℕ) → (x % 2 ^ h < 2 ^ highest x h) × (2 ^ highest x h ≤ 2 * (x % 2 ^ h) + 1)
+unfolding highest
+highest-length x zero = (omega (arith, mod-one x), omega arith)
+highest-length x (suc p) =
+    by-digit x p
+    (λ d.
+    let m : x % 2 ^ suc p ≡ x % 2 ^ p = mod-step x p ∙ rw d (omega arith) in
+    rw (highest-none x p d, m) (highest-length x p))
+    (λ d.
+    let m : x % 2 ^ suc p ≡ 2 ^ p + x % 2 ^ p = mod-step x p ∙ rw d (omega arith) in
+    rw (highest-here x p d) (mod-lt x (pow-pos (suc p)), omega (arith, m, pow-suc 2 p)))
+
+pub highest-leading : (x h : ℕ) → h < 32 → 32 - leadingZeros 32 (x % 2 ^ h) ≡ highest x h
+highest-leading x h lt =
+    let le = highest-le x h in
+    let u = highest-length x h in
+    omega (arith, leading-unique 32 (x % 2 ^ h) (32 - highest x h) (highest x h) (omega arith) (u .0) (u .1))
+
 pub highest-node : (x h : ℕ) → HasNode x (highest x h)
 unfolding highest
 highest-node x zero = tt
 highest-node x (suc p) = by-digit x p (λ d. rw d (highest-node x p)) (λ d. rw d d)
+
+node-digit : (x k : ℕ) → HasNode x k → (k ≡ 0 → ⊥) → digit x (k - 1) ≡ 1
+node-digit x zero n f = absurd (f refl)
+node-digit x (suc p) n f = let e : suc p - 1 ≡ p = omega arith in rw e n
+
+-- k is its height: the digit below k is set
+pub highest-digit : (x h k : ℕ) → k ≡ highest x h → (k ≡ 0 → ⊥) → digit x (k - 1) ≡ 1
+highest-digit x h k e f = node-digit x k (rw e (highest-node x h)) f
 
 -- no node of height at most h is higher
 pub highest-most : (x h q : ℕ) → q ≤ h → HasNode x q → q ≤ highest x h

@@ -36,19 +36,19 @@ module _ (b c : List ℕ) (w : Located) (ew : w ≡ locatedOf (searched b c)) wh
       (λ f r s run. rw (run, verdict-back (f .verdict)))
 
   -- the entries in common end inside each log
-  pub found-ends : (n : ℕ) (v : Verdict) (a d : Tally) → w ≡ located.Found n v a d → (a .end ≤ length b) × (d .end ≤ length c)
-  found-ends = by-found b c w ew (λ n v a d. (a .end ≤ length b) × (d .end ≤ length c)) (λ f r s run. ends-inside b c f r s run)
+  pub found-ends : (n : ℕ) (v : Verdict) (a d : Tally) → w ≡ located.Found n v a d → (a .at ≤ length b) × (d .at ≤ length c)
+  found-ends = by-found b c w ew (λ n v a d. (a .at ≤ length b) × (d .at ≤ length c)) (λ f r s run. ends-inside b c f r s run)
 
   pub in-second : (n : ℕ) (v : Verdict) (a d : Tally) → w ≡ located.Found n v a d → a .count < d .count
-      → rest 2 c (d .end) ≡ placeOf b c (searched b c)
+      → rest 2 c (d .at) ≡ placeOf b c (searched b c)
   in-second =
-      by-found b c w ew (λ n v a d. a .count < d .count → rest 2 c (d .end) ≡ placeOf b c (searched b c))
+      by-found b c w ew (λ n v a d. a .count < d .count → rest 2 c (d .at) ≡ placeOf b c (searched b c))
       (λ f r s run lt. rw (run, lt-ltb (r .count) (s .count) lt))
 
   pub in-first : (n : ℕ) (v : Verdict) (a d : Tally) → w ≡ located.Found n v a d → d .count ≤ a .count
-      → rest 1 b (a .end) ≡ placeOf b c (searched b c)
+      → rest 1 b (a .at) ≡ placeOf b c (searched b c)
   in-first =
-      by-found b c w ew (λ n v a d. d .count ≤ a .count → rest 1 b (a .end) ≡ placeOf b c (searched b c))
+      by-found b c w ew (λ n v a d. d .count ≤ a .count → rest 1 b (a .at) ≡ placeOf b c (searched b c))
       (λ f r s run le. rw (run, le-ltb (r .count) (s .count) le))
 
 -- ---- the piece, from where it lies

@@ -1,4 +1,4 @@
--- A turn of the way down, from the numbers that are computed on it: p is h − 1.
+-- A turn of the way down, from the numbers that are computed on it.
 -- Assumes nothing.
 use mathlib.Core.Bool.{Bool, true, false}
 use mathlib.Core.List.{List}
@@ -7,6 +7,7 @@ use Prim.Native.Nat.{ℕ, suc, _+_, _-_, _≤_}
 use native.Mathlib.Numerals.{add-one}
 use native.Mathlib.Omega.{arith}
 use lib.ListN.{length}
+use Rattle.slate.specs.Address.{highest}
 use Rattle.slate.specs.Bytes.{same}
 use Rattle.slate.specs.Digits.{digit, left}
 use Rattle.entry.specs.Read.{digestAt, leftDigestAt}
@@ -20,8 +21,9 @@ use Rattle.split.specs.declared.Down.{Down}
 use Rattle.split.specs.declared.Down.the-variants as answer
 use Rattle.split.specs.declared.Side.{Side}
 use Rattle.split.specs.declared.Side.the-variants as side
+use Rattle.slate.proofs.Addresses.{highest-digit}
 use Rattle.entry.proofs.LogDescent.{descend-le}
-use Rattle.split.proofs.Downs.{down-descends}
+use Rattle.split.proofs.Downs.{down-descends, down-highest}
 
 -- the answer with one entry read in each log before
 read-both : (q r : Place) (d : Below) (t l m i j : ℕ) → answer.Leaf t l m i j ≡ downOf d
@@ -53,72 +55,68 @@ leaf-counted (leaf t′ l′ m′ qs rs) w t l m r s ew e =
     record { first = qs; second = rs; run = cc; first-count = cc; second-count = cc }
 leaf-counted (blocked z k) w t l m r s ew e = let z : _≡_ {A = ℕ} 0 1 = cc in absurd (omega arith)
 
--- both entries at position x have a node of height h; v is whether its left digests are equal
-pub record Node (b c : List ℕ) (o q x h : ℕ) (v : Bool) : Type 0 where
-  pub high : h ≡ 0 → ⊥
-  pub node : digit x (h - 1) ≡ 1
-  pub lefts : same (leftDigestAt b o x (h - 1)) (leftDigestAt c q x (h - 1)) ≡ v
+-- the highest nodes of the entries at position x have height k; v is whether their left digests are equal
+pub record Node (b c : List ℕ) (o q x h k : ℕ) (v : Bool) : Type 0 where
+  pub top : k ≡ highest x h
+  pub high : k ≡ 0 → ⊥
+  pub lefts : same (leftDigestAt b o x (k - 1)) (leftDigestAt c q x (k - 1)) ≡ v
 
 -- w is what the way below answers
-module _ (b c : List ℕ) (o q x h : ℕ) where
-  pub at-leaf : h ≡ 0 → answer.Leaf x o q 0 0 ≡ downOf (down b c o q x h)
+module _ (b c : List ℕ) (o q x h k : ℕ) where
+  pub at-leaf : k ≡ highest x h → k ≡ 0 → answer.Leaf x o q 0 0 ≡ downOf (down b c o q x h)
   unfolding down
-  at-leaf e = rw e
+  at-leaf ek e = rw (down-highest b c o q x h, ← ek, e)
 
-  turn : (h ≡ 0 → ⊥) → down b c o q x h ≡ down b c o q x (suc (h - 1))
-  turn f = let e : h ≡ suc (h - 1) = omega arith in ap (λ (n : ℕ). down b c o q x n) e
+  turn : {v : Bool} → Node b c o q x h k v → downOf (down b c o q x h) ≡ downOf (down b c o q x (suc (k - 1)))
+  turn n =
+      let e : highest x h ≡ suc (k - 1) = omega (arith, n .top, n .high) in
+      ap downOf (down-highest b c o q x h ∙ ap (λ (m : ℕ). down b c o q x m) e)
 
-  pub no-node : (h ≡ 0 → ⊥) → (w : Down) → digit x (h - 1) ≡ 0 → w ≡ downOf (down b c o q x (h - 1)) → w ≡ downOf (down b c o q x h)
-  unfolding down
-  no-node f w d e = e ∙ sym (ap downOf (turn f) ∙ rw d)
+  set : {v : Bool} → Node b c o q x h k v → digit x (k - 1) ≡ 1
+  set n = highest-digit x h k (n .top) (n .high)
 
-  -- the node of height h
-  module _ {v : Bool} (n : Node b c o q x h v) where
-    turned : downOf (down b c o q x h) ≡ downOf (down b c o q x (suc (h - 1)))
-    turned = ap downOf (turn (n .high))
+  -- their left digests are equal; r is whether the right digests are
+  module _ (n : Node b c o q x h k true) (r : Bool) (er : r ≡ same (digestAt b o x (k - 1)) (digestAt c q x (k - 1))) where
+    pub both-equal : r ≡ true → answer.Refused side.Both cause.Link ≡ downOf (down b c o q x h)
+    unfolding down
+    both-equal e = sym (turn n ∙ rw (set n, n .lefts, ← er, e))
 
-    module _ (e : v ≡ true) where
-      -- with the right digests l and m
-      module _ (l m : List ℕ) (el : l ≡ digestAt b o x (h - 1)) (em : m ≡ digestAt c q x (h - 1)) where
-        pub both-equal : same l m ≡ true → answer.Refused side.Both cause.Link ≡ downOf (down b c o q x h)
-        unfolding down
-        both-equal r = sym (turned ∙ rw (n .node, n .lefts, e, ← el, ← em, r))
+    pub to-right : r ≡ false → (w : Down) → w ≡ downOf (down b c o q x (k - 1)) → w ≡ downOf (down b c o q x h)
+    unfolding down
+    to-right e w ew = ew ∙ sym (turn n ∙ rw (set n, n .lefts, ← er, e))
 
-        pub to-right : same l m ≡ false → (w : Down) → w ≡ downOf (down b c o q x (h - 1)) → w ≡ downOf (down b c o q x h)
-        unfolding down
-        to-right r w ew = ew ∙ sym (turned ∙ rw (n .node, n .lefts, e, ← el, ← em, r))
+  -- their left digests differ; s is what the first log's left step answers
+  module _ (n : Node b c o q x h k false) (s : Step) (es : s ≡ leftStep b o x (k - 1)) where
+    pub first-refused : (z : Cause) → s ≡ step.Refused z → answer.Refused side.First z ≡ downOf (down b c o q x h)
+    unfolding down
+    first-refused z r = sym (turn n ∙ rw (set n, n .lefts, ← es, r))
 
-    -- s is what the first log's left step answers
-    module _ (e : v ≡ false) (s : Step) (es : s ≡ leftStep b o x (h - 1)) where
-      pub first-refused : (k : Cause) → s ≡ step.Refused k → answer.Refused side.First k ≡ downOf (down b c o q x h)
+    -- it leads to i, and s′ is what the second log's answers
+    module _ (i : ℕ) (to : s ≡ step.To i) (s′ : Step) (es′ : s′ ≡ leftStep c q x (k - 1)) where
+      pub second-refused : (z : Cause) → s′ ≡ step.Refused z → answer.Refused side.Second z ≡ downOf (down b c o q x h)
       unfolding down
-      first-refused k r = sym (turned ∙ rw (n .node, n .lefts, e, ← es, r))
+      second-refused z r = sym (turn n ∙ rw (set n, n .lefts, ← es, to, ← es′, r))
 
-      -- it leads to i, and s′ is what the second log's answers
-      module _ (i : ℕ) (to : s ≡ step.To i) (s′ : Step) (es′ : s′ ≡ leftStep c q x (h - 1)) where
-        pub second-refused : (k : Cause) → s′ ≡ step.Refused k → answer.Refused side.Second k ≡ downOf (down b c o q x h)
+      -- that leads to j; the entries there stand at position y
+      module _ (j y : ℕ) (to′ : s′ ≡ step.To j) (ey : y ≡ left x (k - 1)) (w : Down) (ew : w ≡ downOf (down b c i j y (k - 1))) where
+        stepped : downOf (down b c o q x h)
+            ≡ downOf (readingBoth (record { begins = i; position = y }) (record { begins = j; position = y }) (down b c i j y (k - 1)))
         unfolding down
-        second-refused k r = sym (turned ∙ rw (n .node, n .lefts, e, ← es, to, ← es′, r))
+        stepped = rw ey (turn n ∙ rw (set n, n .lefts, ← es, to, ← es′, to′))
 
-        -- that leads to j; the entries there stand at position y
-        module _ (j y : ℕ) (to′ : s′ ≡ step.To j) (ey : y ≡ left x (h - 1)) (w : Down) (ew : w ≡ downOf (down b c i j y (h - 1))) where
-          stepped : downOf (down b c o q x h)
-              ≡ downOf (readingBoth (record { begins = i; position = y }) (record { begins = j; position = y }) (down b c i j y (h - 1)))
-          unfolding down
-          stepped = rw ey (turned ∙ rw (n .node, n .lefts, e, ← es, to, ← es′, to′))
+        pub under-leaf : (t u z r r′ : ℕ) → w ≡ answer.Leaf t u z r r′
+            → answer.Leaf t u z (r + 1) (r′ + 1) ≡ downOf (down b c o q x h)
+        under-leaf t u z r r′ a = read-both _ _ (down b c i j y (k - 1)) t u z r r′ (sym a ∙ ew) ∙ sym stepped
 
-          pub under-leaf : (t u z r r′ : ℕ) → w ≡ answer.Leaf t u z r r′
-              → answer.Leaf t u z (r + 1) (r′ + 1) ≡ downOf (down b c o q x h)
-          under-leaf t u z r r′ a = read-both _ _ (down b c i j y (h - 1)) t u z r r′ (sym a ∙ ew) ∙ sym stepped
+        pub under-refused : (y′ : Side) (z : Cause) → w ≡ answer.Refused y′ z → answer.Refused y′ z ≡ downOf (down b c o q x h)
+        under-refused y′ z a = both-refused _ _ (down b c i j y (k - 1)) y′ z (sym a ∙ ew) ∙ sym stepped
 
-          pub under-refused : (z : Side) (k : Cause) → w ≡ answer.Refused z k → w ≡ downOf (down b c o q x h)
-          under-refused z k a = a ∙ both-refused _ _ (down b c i j y (h - 1)) z k (sym a ∙ ew) ∙ sym stepped
-
-  -- at most h entries are read in each log
-  pub down-reads-le : (w : Down) (t l m r s : ℕ) → w ≡ downOf (down b c o q x h) → w ≡ answer.Leaf t l m r s → (r ≤ h) × (s ≤ h)
-  down-reads-le w t l m r s ew e =
-      let k = leaf-counted (down b c o q x h) w t l m r s ew e in
-      let u = down-descends b c o q x h t l m (k .first) (k .second) (k .run) in (
-        omega (arith, k .first-count, descend-le b o x h t l (k .first) (u .2)),
-        omega (arith, k .second-count, descend-le c q x h t m (k .second) (u .3)),
-      )
+-- at most h entries are read in each log
+pub down-reads-le : (b c : List ℕ) (o q x h : ℕ) (w : Down) (t l m r s : ℕ)
+    → w ≡ downOf (down b c o q x h) → w ≡ answer.Leaf t l m r s → (r ≤ h) × (s ≤ h)
+down-reads-le b c o q x h w t l m r s ew e =
+    let k = leaf-counted (down b c o q x h) w t l m r s ew e in
+    let u = down-descends b c o q x h t l m (k .first) (k .second) (k .run) in (
+      omega (arith, k .first-count, descend-le b o x h t l (k .first) (u .2)),
+      omega (arith, k .second-count, descend-le c q x h t m (k .second) (u .3)),
+    )

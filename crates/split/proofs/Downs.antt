@@ -5,6 +5,7 @@ use mathlib.Core.Path.{_≡_, refl, sym, ap, ap₂, _∙_}
 use Prim.Native.Nat.{ℕ, zero, suc, _≤_, _<_}
 use native.Mathlib.Omega.{arith}
 use lib.ListN.{length}
+use Rattle.slate.specs.Address.{highest}
 use Rattle.slate.specs.Bytes.{same}
 use Rattle.slate.specs.Digits.{base, digit, left, maxHeight}
 use Rattle.entry.specs.Read.{digestAt, entryLenAt, leftDigestAt}
@@ -105,6 +106,12 @@ module _ (b c : List ℕ) (o q x p : ℕ) where
         (λ f. no-leaf (rw (d, e, f) at h))
         (λ f. right d (same-true _ _ e) (same-false _ _ f) (rw (d, e, f) at h)))
         (λ e. turned d (same-false _ _ e) (after-turned (leftStep b o x p) (leftStep c q x p) refl refl (rw (d, e) at h))))
+
+-- the way down begins at the highest node
+pub down-highest : (b c : List ℕ) (o q x h : ℕ) → down b c o q x h ≡ down b c o q x (highest x h)
+unfolding highest
+down-highest b c o q x zero = refl
+down-highest b c o q x (suc p) = by-digit x p (λ d. rw d (down-none b c o q x p d ∙ down-highest b c o q x p)) (λ d. rw d)
 
 -- ---- two descents
 

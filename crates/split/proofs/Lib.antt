@@ -1,3 +1,4 @@
+pub mod AnswerCases
 pub mod AnswerForms
 pub mod AnyBytes
 pub mod Brought

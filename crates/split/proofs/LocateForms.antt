@@ -45,24 +45,24 @@ refused-below (leaf t l m qs rs) w s k ew e = cc
 refused-below (blocked s′ k′) w s k ew e = cc
 
 -- v is whether the tops are equal
-module _ (b c : List ℕ) (t : ℕ) (a d : Tally) {v : Bool} (tops : same (digestAt b (a .end) t maxHeight) (digestAt c (d .end) t maxHeight) ≡ v)
-  where
-    pub equal-tops : v ≡ true → (l m : ℕ) → l ≡ entryLenAt b (a .end) t → m ≡ entryLenAt c (d .end) t
-        → (w : Verdict) → w ≡ toVerdict (byLength (a .count) (d .count))
-        → located.Found (t + 1) w (record { count = a .count; reads = a .reads; end = a .end + l })
-        (record { count = d .count; reads = d .reads; end = d .end + m }) ≡ locatedAt b c t a d
-    equal-tops e l m el em w ew = rw (tops, e, el, em, ew, add-one t)
+module _ (b c : List ℕ) (t : ℕ) (a d : Tally) (v : Bool)
+    (tops : v ≡ same (digestAt b (a .at) t maxHeight) (digestAt c (d .at) t maxHeight)) where
+  pub equal-tops : v ≡ true → (l m : ℕ) → l ≡ entryLenAt b (a .at) t → m ≡ entryLenAt c (d .at) t
+      → (w : Verdict) → w ≡ toVerdict (byLength (a .count) (d .count))
+      → located.Found (t + 1) w (record { count = a .count; reads = a .reads; at = a .at + l })
+      (record { count = d .count; reads = d .reads; at = d .at + m }) ≡ locatedAt b c t a d
+  equal-tops e l m el em w ew = rw (← tops, e, el, em, ew, add-one t)
 
-    -- w is what the way down answers
-    module _ (e : v ≡ false) (w : Down) (ew : w ≡ downOf (down b c (a .end) (d .end) t maxHeight)) where
-      pub below-refused : (s : Side) (k : Cause) → w ≡ answer.Refused s k → located.Refused s k ≡ locatedAt b c t a d
-      below-refused s k r = rw (tops, e, refused-below (down b c (a .end) (d .end) t maxHeight) w s k ew r)
+  -- w is what the way down answers
+  module _ (e : v ≡ false) (w : Down) (ew : w ≡ downOf (down b c (a .at) (d .at) t maxHeight)) where
+    pub below-refused : (s : Side) (k : Cause) → w ≡ answer.Refused s k → located.Refused s k ≡ locatedAt b c t a d
+    below-refused s k r = rw (← tops, e, refused-below (down b c (a .at) (d .at) t maxHeight) w s k ew r)
 
-      pub below-leaf : (x l m r s : ℕ) → w ≡ answer.Leaf x l m r s
-          → located.Found x (verdict.DifferAt (x + 1)) (further a l r) (further d m s) ≡ locatedAt b c t a d
-      below-leaf x l m r s f =
-          let k = leaf-counted (down b c (a .end) (d .end) t maxHeight) w x l m r s ew f in
-          rw (tops, e, k .run, ← k .first-count, ← k .second-count, add-one x)
+    pub below-leaf : (x l m r s : ℕ) → w ≡ answer.Leaf x l m r s
+        → located.Found x (verdict.DifferAt (x + 1)) (further a l r) (further d m s) ≡ locatedAt b c t a d
+    below-leaf x l m r s f =
+        let k = leaf-counted (down b c (a .at) (d .at) t maxHeight) w x l m r s ew f in
+        rw (← tops, e, k .run, ← k .first-count, ← k .second-count, add-one x)
 
 -- ---- both logs are open, and n is the smaller length
 
@@ -83,7 +83,7 @@ opening-last o zero lt = absurd (omega arith)
 opening-last o (suc x) lt = let e : suc x - 1 ≡ x = omega arith in rw e
 
 moved-tally : (o m l r : ℕ) (qs : List Place) → 0 < m → r ≡ length qs
-    → tally (moved (opening o m) l qs) ≡ record { count = m; reads = 1 + r; end = l }
+    → tally (moved (opening o m) l qs) ≡ record { count = m; reads = 1 + r; at = l }
 moved-tally o m l r qs lt e = rw (opening-last o m lt, e, one-add (length qs))
 
 opening-tally : (o m : ℕ) → length (opening o m .reads) ≡ openingReads m
@@ -115,7 +115,7 @@ module _ (b c : List ℕ) (o m q k n : ℕ) (a : Indexed b o m n) (d : Indexed c
       second-stopped z f = sym (ap locatedOf turn ∙ rw (walk-reached a w ew l r e .run, walk-stopped d w′ ew′ z f))
 
       pub both-arrived : (l′ r′ : ℕ) → w′ ≡ walk.Arrived l′ r′ → (x : Located)
-          → x ≡ locatedAt b c (n - 1) (record { count = m; reads = 1 + r; end = l }) (record { count = k; reads = 1 + r′; end = l′ })
+          → x ≡ locatedAt b c (n - 1) (record { count = m; reads = 1 + r; at = l }) (record { count = k; reads = 1 + r′; at = l′ })
           → x ≡ locatedOf (searchFrom b c (min m k) (opening o m) (opening q k))
       both-arrived l′ r′ e′ x ex =
           let i = walk-reached a w ew l r e in
@@ -145,7 +145,7 @@ module _ (b c : List ℕ) (o m : ℕ) (eo : openedLog b ≡ opened.Log o m) wher
     both-opened x e = rw (eo, eq) e
 
     pub one-empty : min m k ≡ 0 → (v : Verdict) (i j : ℕ) → v ≡ toVerdict (byLength m k) → i ≡ openingReads m → j ≡ openingReads k
-        → located.Found 0 v (record { count = m; reads = i; end = 0 }) (record { count = k; reads = j; end = 0 }) ≡ locatedOf (searched b c)
+        → located.Found 0 v (record { count = m; reads = i; at = 0 }) (record { count = k; reads = j; at = 0 }) ≡ locatedOf (searched b c)
     one-empty n v i j ev ei ej =
         rw (ev, ei, ej, ← opening-tally o m, ← opening-tally q k) (sym (ap locatedOf (searched-none b c o m q k eo eq n)))
 

@@ -15,9 +15,11 @@ use Rattle.entry.specs.declared.Cause.{Cause}
 use Rattle.entry.specs.declared.Opened.the-variants as opened
 use Rattle.ringlog.specs.Answer.{counted}
 use Rattle.ringlog.specs.Cut.{cutTo}
+use Rattle.split.specs.Answer.{answerOf}
 use Rattle.split.specs.Reads.{readsFormula}
 use Rattle.split.specs.Repair.{donor, pieceOf}
 use Rattle.split.specs.Search.{Trace, answered, refused, searched}
+use Rattle.split.specs.declared.SearchAnswer.{SearchAnswer}
 use Rattle.split.specs.declared.Side.{Side}
 
 -- ---- two well-formed logs, which are the logs of the values vs and ws
@@ -51,6 +53,10 @@ RepairHeals =
     × (take end other ++ pieceOf (log vs) (log ws) (searched (log vs) (log ws)) ≡ donor (length vs) (length ws) (log vs) (log ws))
 
 -- ---- any bytes
+
+-- an answer's numbers tell its case, so that the promise decides the enum
+abbrev pub OneAnswer : Type 0
+OneAnswer = (r s : SearchAnswer) → answerOf r ≡ answerOf s → r ≡ s
 
 -- each log has as many entries as its opening says, and its entries read are as many as document 01's formula says for that answer
 abbrev pub ReadsCounted : Type 0

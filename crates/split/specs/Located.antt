@@ -22,7 +22,7 @@ toVerdict comparison.secondShorter = verdict.SecondShorter
 toVerdict (comparison.differAt i) = verdict.DifferAt i
 
 abbrev pub tally : Trace → Tally
-tally a = record { count = a .count; reads = length (a .reads); end = a .at }
+tally a = record { count = a .count; reads = length (a .reads); at = a .at }
 
 abbrev pub locatedOf : Search → Located
 locatedOf (answered f a d) = located.Found (f .common) (toVerdict (f .verdict)) (tally a) (tally d)
@@ -37,10 +37,10 @@ openingReads (suc x) = 1
 
 -- so many entries more are read
 abbrev pub further : Tally → ℕ → ℕ → Tally
-further a o n = record { count = a .count; reads = a .reads + n; end = o }
+further a o n = record { count = a .count; reads = a .reads + n; at = o }
 
 abbrev pub past : List ℕ → Tally → ℕ → Tally
-past b a t = record { count = a .count; reads = a .reads; end = a .end + entryLenAt b (a .end) t }
+past b a t = record { count = a .count; reads = a .reads; at = a .at + entryLenAt b (a .at) t }
 
 abbrev pub locatedBelow : Tally → Tally → Below → Located
 locatedBelow a d (leaf t l m qs rs) =
@@ -49,6 +49,6 @@ locatedBelow a d (blocked s k) = located.Refused s k
 
 abbrev pub locatedAt : List ℕ → List ℕ → ℕ → Tally → Tally → Located
 locatedAt b c t a d =
-    pick (same (digestAt b (a .end) t maxHeight) (digestAt c (d .end) t maxHeight))
+    pick (same (digestAt b (a .at) t maxHeight) (digestAt c (d .at) t maxHeight))
     (located.Found (suc t) (toVerdict (comparison.byLength (a .count) (d .count))) (past b a t) (past c d t))
-    (locatedBelow a d (down b c (a .end) (d .end) t maxHeight))
+    (locatedBelow a d (down b c (a .at) (d .at) t maxHeight))

@@ -6,13 +6,12 @@ ghost use Rattle.entry.specs.Shape.{Inside};
 ghost use Rattle.split.specs.Below as below;
 use crate::Down;
 use crate::Side;
+use crate::digests::same_left;
+use crate::digests::same_top;
 use entry::Cause;
 use entry::Step;
-use entry::compare::same_bytes;
-use entry::layout::digest_at;
-use entry::layout::left_digest_at;
 use entry::steps::left_step;
-use slate::digits::digit;
+use slate::digits::highest;
 use slate::digits::left;
 
 // From the highest nodes of height at most `height` of the entries at this position, which begin at
@@ -31,7 +30,8 @@ pub fn down(
     requires { ⌜ height ≤ maxHeight ⌝ }
     ensures { λ r. ⌜ r ≡ below.downOf (below.down (now (first .entry)) (now (second .entry)) «first_at» «second_at» position height) ⌝ }
 {
-    if height == 0 {
+    let top = highest(position, height);
+    if top == 0 {
         return Down::Leaf {
             position: position,
             first: first_at,
@@ -40,16 +40,9 @@ pub fn down(
             second_reads: 0,
         };
     }
-    let p = height - 1;
-    if digit(position, p) == 0 {
-        return down(first, second, first_at, second_at, position, p);
-    }
-    let first_left = left_digest_at(first, first_at, position, p);
-    let second_left = left_digest_at(second, second_at, position, p);
-    if same_bytes(first_left, second_left) {
-        let first_right = digest_at(first, first_at, position, p);
-        let second_right = digest_at(second, second_at, position, p);
-        if same_bytes(first_right, second_right) {
+    let p = top - 1;
+    if same_left(first, second, first_at, second_at, position, p) {
+        if same_top(first, second, first_at, second_at, position, p) {
             return Down::Refused(Side::Both, Cause::Link);
         }
         return down(first, second, first_at, second_at, position, p);
@@ -59,23 +52,21 @@ pub fn down(
         Step::To(first_to) => match left_step(second, second_at, position, p) {
             Step::Refused(cause) => Down::Refused(Side::Second, cause),
             Step::To(second_to) => {
-                let under = down(first, second, first_to, second_to, left(position, p), p);
-                let Down::Leaf {
-                    position: leaf,
-                    first: first_leaf,
-                    second: second_leaf,
-                    first_reads,
-                    second_reads,
-                } = under
-                else {
-                    return under;
-                };
-                Down::Leaf {
-                    position: leaf,
-                    first: first_leaf,
-                    second: second_leaf,
-                    first_reads: first_reads + 1,
-                    second_reads: second_reads + 1,
+                match down(first, second, first_to, second_to, left(position, p), p) {
+                    Down::Refused(side, cause) => Down::Refused(side, cause),
+                    Down::Leaf {
+                        position: leaf,
+                        first: first_leaf,
+                        second: second_leaf,
+                        first_reads,
+                        second_reads,
+                    } => Down::Leaf {
+                        position: leaf,
+                        first: first_leaf,
+                        second: second_leaf,
+                        first_reads: first_reads + 1,
+                        second_reads: second_reads + 1,
+                    },
                 }
             }
         },

@@ -1,5 +1,5 @@
-// Search and repair: where two logs split, in a proved number of reads, and the piece of the longer
-// one that heals the other.
+// Search and repair: where two logs split, in a proved number of reads, and the piece of one that
+// heals the other.
 //
 // Both calls are defined for any bytes. specs/Search.antt and specs/Repair.antt say what they
 // answer, specs/Claims.antt what that is on well-formed logs and what an answer is worth on any
@@ -9,6 +9,7 @@ ghost use Rattle.split.specs.Answer.{differencePlace, sideNumber, verdic
 use entry::Cause;
 
 mod below;
+mod digests;
 mod locate;
 mod repairing;
 mod searching;
@@ -90,12 +91,12 @@ pub struct Piece {
     pub length: usize,
 }
 
-// Internal: a log of `count` entries as the search leaves it. It has read so many of them, and those
-// in common end at `end`, as it reached them.
+// Internal: a log of `count` entries in which the search has read so many, and where it stands: at
+// last, where the entries in common end, as it reached them.
 pub struct Tally {
     pub count: u32,
     pub reads: u32,
-    pub end: usize,
+    pub at: usize,
 }
 
 // Internal: what the search finds.

@@ -1,10 +1,11 @@
 // The search for the split of two logs: what the search answers, and where the repair piece starts.
 // All functions here are internal.
 ghost use mathlib.Core.Path.{_≡_};
-ghost use Prim.Native.Nat.{_+_, _≤_, _<_, min};
+ghost use Prim.Native.Nat.{_+_, _-_, _≤_, _<_, min};
 ghost use Rattle.slate.specs.Comparison.{byLength};
 ghost use Rattle.slate.specs.Digits.{maxHeight};
 ghost use Rattle.entry.specs.Shape.{Inside, openedLog};
+ghost use Rattle.entry.specs.Walk.{descend, walkOf};
 ghost use Rattle.entry.specs.declared.Opened.the-variants as opened;
 ghost use Rattle.split.specs.Located.{locatedAt, locatedOf, openingReads, toVerdict};
 ghost use Rattle.split.specs.Search.{opening, searchFrom, searched};
@@ -14,11 +15,10 @@ use crate::Side;
 use crate::Tally;
 use crate::Verdict;
 use crate::below::down;
+use crate::digests::same_top;
 use entry::Cause;
 use entry::Opened;
 use entry::Walk;
-use entry::compare::same_bytes;
-use entry::layout::digest_at;
 use entry::layout::entry_len_at;
 use entry::opening::open_log;
 use entry::steps::descend;
@@ -56,34 +56,48 @@ fn opening_reads(count: u32) -> u32
     1
 }
 
+// A log of m entries, the last of which begins at `last`, is brought to entry n. No step is taken
+// where that is the last.
+fn bring(log: &[u8], last: usize, m: u32, n: u32) -> Walk
+    requires { ⌜ openedLog (now log) ≡ opened.Log last m ⌝ }
+    requires { ⌜ (1 ≤ n) × (n ≤ m) ⌝ }
+    ensures { λ r. ⌜ r ≡ walkOf (descend (now (log .entry)) last (m - 1) maxHeight (n - 1)) ⌝ }
+{
+    if m == n {
+        return Walk::Arrived {
+            start: last,
+            reads: 0,
+        };
+    }
+    descend(log, last, m - 1, MAX_HEIGHT, n - 1)
+}
+
 // Both logs stand at the entry at this position: equal tops, or down to the leaf of the difference.
 fn locate_at(first: &[u8], second: &[u8], position: u32, a: Tally, b: Tally) -> Located
-    requires { ⌜ Inside (now first) (a .end) position ⌝ }
-    requires { ⌜ Inside (now second) (b .end) position ⌝ }
+    requires { ⌜ Inside (now first) (a .at) position ⌝ }
+    requires { ⌜ Inside (now second) (b .at) position ⌝ }
     requires { ⌜ (a .reads ≤ 1 + maxHeight) × (b .reads ≤ 1 + maxHeight) ⌝ }
     ensures { λ r. ⌜ r ≡ locatedAt (now (first .entry)) (now (second .entry)) position a b ⌝ }
 {
-    let first_top = digest_at(first, a.end, position, MAX_HEIGHT);
-    let second_top = digest_at(second, b.end, position, MAX_HEIGHT);
-    if same_bytes(first_top, second_top) {
-        let first_length = entry_len_at(first, a.end, position);
-        let second_length = entry_len_at(second, b.end, position);
+    if same_top(first, second, a.at, b.at, position, MAX_HEIGHT) {
+        let first_length = entry_len_at(first, a.at, position);
+        let second_length = entry_len_at(second, b.at, position);
         return Located::Found {
             common: position + 1,
             verdict: by_length(a.count, b.count),
             first: Tally {
                 count: a.count,
                 reads: a.reads,
-                end: a.end + first_length,
+                at: a.at + first_length,
             },
             second: Tally {
                 count: b.count,
                 reads: b.reads,
-                end: b.end + second_length,
+                at: b.at + second_length,
             },
         };
     }
-    match down(first, second, a.end, b.end, position, MAX_HEIGHT) {
+    match down(first, second, a.at, b.at, position, MAX_HEIGHT) {
         Down::Refused(side, cause) => Located::Refused(side, cause),
         Down::Leaf {
             position: leaf,
@@ -97,12 +111,12 @@ fn locate_at(first: &[u8], second: &[u8], position: u32, a: Tally, b: Tally) -> 
             first: Tally {
                 count: a.count,
                 reads: a.reads + first_reads,
-                end: first_leaf,
+                at: first_leaf,
             },
             second: Tally {
                 count: b.count,
                 reads: b.reads + second_reads,
-                end: second_leaf,
+                at: second_leaf,
             },
         },
     }
@@ -121,13 +135,13 @@ fn locate_from(
     requires { ⌜ (openedLog (now second) ≡ opened.Log «second_last» k) × (0 < k) ⌝ }
     ensures { λ r. ⌜ r ≡ locatedOf (searchFrom (now (first .entry)) (now (second .entry)) (min m k) (opening «first_last» m) (opening «second_last» k)) ⌝ }
 {
-    let position = smaller(m, k) - 1;
-    match descend(first, first_last, m - 1, MAX_HEIGHT, position) {
+    let n = smaller(m, k);
+    match bring(first, first_last, m, n) {
         Walk::Refused(cause) => Located::Refused(Side::First, cause),
         Walk::Arrived {
             start: first_at,
             reads: first_steps,
-        } => match descend(second, second_last, k - 1, MAX_HEIGHT, position) {
+        } => match bring(second, second_last, k, n) {
             Walk::Refused(cause) => Located::Refused(Side::Second, cause),
             Walk::Arrived {
                 start: second_at,
@@ -135,16 +149,16 @@ fn locate_from(
             } => locate_at(
                 first,
                 second,
-                position,
+                n - 1,
                 Tally {
                     count: m,
                     reads: 1 + first_steps,
-                    end: first_at,
+                    at: first_at,
                 },
                 Tally {
                     count: k,
                     reads: 1 + second_steps,
-                    end: second_at,
+                    at: second_at,
                 },
             ),
         },
@@ -176,12 +190,12 @@ pub fn locate(first: &[u8], second: &[u8]) -> Located
             first: Tally {
                 count: m,
                 reads: opening_reads(m),
-                end: 0,
+                at: 0,
             },
             second: Tally {
                 count: k,
                 reads: opening_reads(k),
-                end: 0,
+                at: 0,
             },
         };
     }

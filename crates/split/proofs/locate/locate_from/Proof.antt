@@ -4,7 +4,7 @@ use Prim.Native.Nat.{_≤_}
 use native.Mathlib.Omega.{arith}
 use borrow.Author.Needs.{needs}
 use Rattle.slate.specs.Digits.{maxHeight}
-use Rattle.entry.proofs.Reached.{Indexed, last-inside, walk-reached}
+use Rattle.entry.proofs.Reached.{Indexed, walk-reached}
 use Rattle.entry.proofs.StepForms.{reads-le}
 use Rattle.split.proofs.LocateForms.{both-arrived, first-stopped, second-stopped}
 use Rattle.split.proofs.locate.locate_from.Statement.{statement}
@@ -28,81 +28,70 @@ module _ (c : tie.After-smaller) where
     high = omega (arith, c .smaller .ensures);
   }
 
-descend-requires : tie.Need-descend-requires
-unfolding maxHeight
-descend-requires c κs = (last-inside (first-indexed c), omega arith)
+bring-requires : tie.Need-bring-requires
+bring-requires c κs = let i = first-indexed c in (i .opens, (i .first, i .high))
 
-descend-requires-2 : tie.Need-descend-requires-2
-unfolding maxHeight
-descend-requires-2 c κs = (last-inside (second-indexed (c .before .before .before .before)), omega arith)
+bring-requires-2 : tie.Need-bring-requires-2
+bring-requires-2 c κs = let i = second-indexed (c .before .before .before .before) in (i .opens, (i .first, i .high))
 
 -- at most a read for each height
 module _ (c : tie.After-known-told4) where
   first-few : c .before .before .before .before .before .first-at .given .0 .1 .0 ≤ maxHeight
-  unfolding maxHeight
-  first-few =
-      reads-le _ _ _ _ _ _ _ _ (c .before .before .before .before .before .before .before .descend .ensures)
-      (c .before .before .before .before .before .first-at .given .1)
+  first-few = reads-le _ _ _ _ _ _ _ _ (c .before .before .before .before .before .before .before .bring .ensures) (c .before .before .before .before .before .first-at .given .1)
 
   second-few : c .before .second-at .given .0 .1 .0 ≤ maxHeight
-  unfolding maxHeight
-  second-few = reads-le _ _ _ _ _ _ _ _ (c .before .before .before .descend2 .ensures) (c .before .second-at .given .1)
+  second-few = reads-le _ _ _ _ _ _ _ _ (c .before .before .before .bring2 .ensures) (c .before .second-at .given .1)
 
-add-t22 : tie.Need-add-t22
+add-t21 : tie.Need-add-t21
 unfolding maxHeight
-add-t22 c = omega (arith, first-few c)
+add-t21 c = omega (arith, first-few c)
 
-add-t24 : tie.Need-add-t24
+add-t23 : tie.Need-add-t23
 unfolding maxHeight
-add-t24 c = omega (arith, second-few c)
+add-t23 c = omega (arith, second-few c)
 
 locate-at-requires : tie.Need-locate-at-requires
-unfolding maxHeight
 locate-at-requires c κs =
     let w = c .before .before .before .before .before .before .before in
     let s = w .before in
-    let i = walk-reached (first-indexed s) _ (w .descend .ensures) _ _ (c .before .before .before .before .before .first-at .given .1) .inside in
-    let j = walk-reached (second-indexed s) _ (c .before .before .before .descend2 .ensures) _ _ (c .before .second-at .given .1) .inside in
+    let i = walk-reached (first-indexed s) _ (w .bring .ensures) _ _ (c .before .before .before .before .before .first-at .given .1) .inside in
+    let j = walk-reached (second-indexed s) _ (c .before .before .before .bring2 .ensures) _ _ (c .before .second-at .given .1) .inside in
     (i, (j, (omega (arith, first-few c), omega (arith, second-few c))))
 
 returns : tie.Need-returns
-unfolding maxHeight
 returns c =
     let w = c .before .before .before in
     let s = w .before in
-    first-stopped _ _ _ _ _ _ _ (first-indexed s) (second-indexed s) (s .smaller .ensures) _ (w .descend .ensures) _
+    first-stopped _ _ _ _ _ _ _ (first-indexed s) (second-indexed s) (s .smaller .ensures) _ (w .bring .ensures) _
     (c .before .cause .given .1)
 
 returns-2 : tie.Need-returns-2
-unfolding maxHeight
 returns-2 c =
     let v = c .before .before .before in
     let w = v .before .before .before .before in
     let s = w .before in
-    second-stopped _ _ _ _ _ _ _ (first-indexed s) (second-indexed s) (s .smaller .ensures) _ (w .descend .ensures) _ _
-    (v .before .before .first-at .given .1) _ (v .descend2 .ensures) _ (c .before .cause2 .given .1)
+    second-stopped _ _ _ _ _ _ _ (first-indexed s) (second-indexed s) (s .smaller .ensures) _ (w .bring .ensures) _ _
+    (v .before .before .first-at .given .1) _ (v .bring2 .ensures) _ (c .before .cause2 .given .1)
 
 returns-3 : tie.Need-returns-3
-unfolding maxHeight
 returns-3 c =
     let v = c .before .before .before .before in
     let w = v .before .before .before .before in
     let s = w .before in
-    both-arrived _ _ _ _ _ _ _ (first-indexed s) (second-indexed s) (s .smaller .ensures) _ (w .descend .ensures) _ _
-    (v .before .before .first-at .given .1) _ (v .descend2 .ensures) _ _ (c .before .before .second-at .given .1) _
-    (c .locate-at .ensures)
+    both-arrived _ _ _ _ _ _ _ (first-indexed s) (second-indexed s) (s .smaller .ensures) _ (w .bring .ensures) _ _
+    (v .before .before .first-at .given .1) _ (v .bring2 .ensures) _ _ (c .before .before .second-at .given .1) _ (c .locate-at .ensures)
 
 pub locate-from-spec : {M : Type 1} → statement M
 locate-from-spec =
     tie.close
     (tie.spec
-    (λ c κs. search needs) (λ c. search needs) (λ c. search needs)
-    descend-requires
-    (λ c. search needs) (λ c. search needs) (λ c. search needs)
-    descend-requires-2
+    (λ c κs. search needs)
+    bring-requires
     (λ c. search needs) (λ c. search needs)
-    add-t22
-    add-t24
+    bring-requires-2
+    (λ c. search needs) (λ c. search needs) (λ c. search needs)
+    add-t21
+    add-t23
     locate-at-requires
     returns
     returns-2
