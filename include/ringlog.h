@@ -34,9 +34,10 @@
  *
  * The entries of a log hold the nodes of a hash tree, whose top digest is the root. Cut, value and
  * proof go from the last entry to the one that is wanted, from the top of the tree down, by at most
- * 12 links. A link is the offset of an older entry and a digest: the entry there must have the right
- * shape and the index wanted (else 6), and then it must store that digest (else 7). No other entry is
- * looked at, so what else stands in the log does not matter to them.
+ * 12 links; search and repair do so in two logs, and in each at most twice. A link is the offset of
+ * an older entry and a digest: the entry there must have the right shape and the index wanted (else
+ * 6), and then it must store that digest (else 7). No other entry is looked at, so what else stands
+ * in the log does not matter to them.
  *
  * Numbers of refusals, the same in every call:
  *
@@ -48,7 +49,8 @@
  *   4  the log has 4,096 entries already
  *   5  the entry is longer than the buffer's room after used
  *   6  the log does not open; a link leads to no entry of the right shape with the index wanted
- *   7  a link's digest is not the one stored where it leads; a value does not fold to the root
+ *   7  a link's digest is not the one stored where it leads; a value does not fold to the root; two
+ *      logs store different digests for a node, and the same ones for both of its children
  *   8  the proof is longer than the output
  */
 #ifndef RINGLOG_H
@@ -86,6 +88,30 @@ struct ringlog_extent {
  */
 struct ringlog_part {
     uint32_t number;
+    uint64_t offset;
+    uint64_t length;
+};
+
+/*
+ * Where two logs split: number 0, side 0 and what was found, or the number of a refusal, its side and
+ * zeros.
+ */
+struct ringlog_split {
+    uint32_t number;
+    uint32_t side;        /* the log that is refused: 1 first, 2 second, 3 both; else 0 */
+    uint64_t common;      /* how many values are in common, from the first on */
+    uint32_t verdict;     /* 0 same, 1 first shorter, 2 second shorter, 3 differ at place */
+    uint64_t place;       /* the index of the value where they differ, else 0 */
+    uint64_t first_reads; /* how many entries were read in the first log, and in the second */
+    uint64_t second_reads;
+};
+
+/*
+ * A part of one of two logs that were lent: which log, where the part begins in it and how many bytes
+ * it has, or three zeros. The bytes themselves are not copied; they stay the caller's.
+ */
+struct ringlog_piece {
+    uint32_t donor; /* 1 first, 2 second; 0 where the search is refused */
     uint64_t offset;
     uint64_t length;
 };
@@ -190,6 +216,53 @@ bool ringlog_check_proof(size_t count, size_t index, const uint8_t *item, size_t
  *   6, 7  a link on the way does not hold, from the top down, in one link 6 before 7.
  */
 struct ringlog_count ringlog_cut(uint8_t *buffer, size_t buffer_len, size_t used, size_t count);
+
+/*
+ * Where two logs split; here n is the smaller of the two. Both are brought to entry n. Where its top
+ * digests differ, the search goes down to the first leaf that differs, at each node to the left if
+ * the left digests differ, else to the right. It answers how many values are in common, and that the
+ * logs are the same, that one is shorter and the other goes on behind it, or that they differ at
+ * place, which is common + 1.
+ *
+ * Only digests are compared, as the logs store them, never values. Two well-formed logs are never
+ * refused, and the answer is that of comparing them value by value, unless at a node or leaf that
+ * both have different bytes were hashed to one digest. Of logs that may be damaged it says nothing
+ * before an audit.
+ *
+ * An entry is read by opening a log that is not empty, and by each link that is followed. The reads
+ * count them, 24 at most in a log. Where the search answers, no byte of another entry matters,
+ * neither to the answer nor to the reads. If n is 0, both logs were opened and 0 values are in
+ * common.
+ *
+ * Refused, the first that applies, with a side and all else 0:
+ *   6  the first log does not open (side 1), then the second (side 2);
+ *   6, 7  a link on the longer log's way to entry n does not hold (side 1 or 2), from the top down,
+ *         in one link 6 before 7;
+ *   6, 7  a link on the way down from there does not hold, at each node the first log's (side 1)
+ *         before the second's (side 2), in one link 6 before 7;
+ *   7  at a node on that way, whose digests differ, left and right digests agree (side 3).
+ *
+ * The two logs may be the same bytes, or overlap. Writes nothing.
+ */
+struct ringlog_split ringlog_search(const uint8_t *first, size_t first_len,
+                                    const uint8_t *second, size_t second_len);
+
+/*
+ * The piece that makes one of two logs into the other: a part of the donor, up to its end. The donor
+ * is the log with more entries, by the index of its last one and not by its bytes, and the first if
+ * they have equally many. The piece begins, as ringlog_search reaches them, where the donor's entry
+ * `place` begins if the logs differ, else where its entry n ends, and at 0 if n is 0. For two
+ * well-formed logs whose search agrees with the comparison value by value, the other log cut to the
+ * common count, and then the piece, are the donor byte for byte.
+ *
+ * A piece may be empty: equal logs give donor 1, offset first_len and length 0. Where ringlog_search
+ * is refused there is no donor, and all three are 0; ask it for the number and the side.
+ *
+ * The piece is not checked against a root, and only those of its entries are looked at that the
+ * search reads: the receiver audits. The two logs may be the same bytes, or overlap. Writes nothing.
+ */
+struct ringlog_piece ringlog_repair(const uint8_t *first, size_t first_len,
+                                    const uint8_t *second, size_t second_len);
 
 #ifdef __cplusplus
 }

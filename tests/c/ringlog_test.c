@@ -57,6 +57,32 @@ static int is_part(struct ringlog_part result, uint32_t number, uint64_t offset,
     return result.number == number && result.offset == offset && result.length == length;
 }
 
+/* Whether the search is refused with this number for this side, and all else is 0. */
+static int is_refused(struct ringlog_split result, uint32_t number, uint32_t side)
+{
+    return result.number == number && result.side == side && result.common == 0
+        && result.verdict == 0 && result.place == 0 && result.first_reads == 0
+        && result.second_reads == 0;
+}
+
+/* Whether the search answers with so many values in common, this verdict, and place 0 or, where the
+   logs differ, the one behind those in common. */
+static int is_found(struct ringlog_split result, uint64_t common, uint32_t verdict)
+{
+    return result.number == 0 && result.side == 0 && result.common == common
+        && result.verdict == verdict && result.place == (verdict == 3 ? common + 1 : 0);
+}
+
+static int has_reads(struct ringlog_split result, uint64_t first, uint64_t second)
+{
+    return result.first_reads == first && result.second_reads == second;
+}
+
+static int is_piece(struct ringlog_piece result, uint32_t donor, uint64_t offset, uint64_t length)
+{
+    return result.donor == donor && result.offset == offset && result.length == length;
+}
+
 static struct ringlog_digest digest_of(const char *text)
 {
     return ringlog_sha256((const uint8_t *)text, strlen(text));
@@ -79,6 +105,18 @@ static void check_layout(void)
     check(offsetof(struct ringlog_part, number) == 0, "its number is at offset 0");
     check(offsetof(struct ringlog_part, offset) == 8, "its offset is at offset 8");
     check(offsetof(struct ringlog_part, length) == 16, "its length is at offset 16");
+    check(sizeof(struct ringlog_split) == 48, "struct ringlog_split has 48 bytes");
+    check(offsetof(struct ringlog_split, number) == 0, "its number is at offset 0");
+    check(offsetof(struct ringlog_split, side) == 4, "its side is at offset 4");
+    check(offsetof(struct ringlog_split, common) == 8, "its common is at offset 8");
+    check(offsetof(struct ringlog_split, verdict) == 16, "its verdict is at offset 16");
+    check(offsetof(struct ringlog_split, place) == 24, "its place is at offset 24");
+    check(offsetof(struct ringlog_split, first_reads) == 32, "its first_reads are at offset 32");
+    check(offsetof(struct ringlog_split, second_reads) == 40, "its second_reads are at offset 40");
+    check(sizeof(struct ringlog_piece) == 24, "struct ringlog_piece has 24 bytes");
+    check(offsetof(struct ringlog_piece, donor) == 0, "its donor is at offset 0");
+    check(offsetof(struct ringlog_piece, offset) == 8, "its offset is at offset 8");
+    check(offsetof(struct ringlog_piece, length) == 16, "its length is at offset 16");
 }
 
 static void check_known_digests(void)
@@ -246,6 +284,93 @@ static void check_proofs(void)
           "a bent byte is not");
 }
 
+/* Three taps of which the second is another. */
+static void append_other_taps(uint8_t *log)
+{
+    ringlog_append(log, 296, 0, first_tap, 9);
+    ringlog_append(log, 296, 52, third_tap, 9);
+    check(is_count(ringlog_append(log, 296, 174, third_tap, 9), 0, 296),
+          "three other taps take 296 bytes");
+}
+
+static void check_searches(void)
+{
+    struct ringlog_split split;
+    uint8_t other[296];
+    uint8_t before[296];
+
+    append_other_taps(other);
+    memcpy(before, other, sizeof other);
+    split = ringlog_search(three_taps, 296, other, 296);
+    check(is_found(split, 1, 3), "the logs differ at 2");
+    check(has_reads(split, 2, 2), "entries 3 and 2 of both are read");
+    split = ringlog_search(three_taps, 296, other, 52);
+    check(is_found(split, 1, 2), "the second has one tap and is shorter");
+    check(has_reads(split, 3, 1), "entries 3, 2 and 1 of the first are read, and 1 of the second");
+    split = ringlog_search(other, 174, three_taps, 296);
+    check(is_found(split, 1, 3), "two taps and three differ at 2");
+    check(has_reads(split, 1, 2), "the way from entry 3 to 2 is one read more");
+    split = ringlog_search(three_taps, 296, three_taps, 296);
+    check(is_found(split, 3, 0), "a log is the same as itself");
+    check(has_reads(split, 1, 1), "its last entry is read twice");
+    split = ringlog_search(three_taps, 174, three_taps, 296);
+    check(is_found(split, 2, 1), "two of three taps are shorter");
+    split = ringlog_search(three_taps, 296, other, 0);
+    check(is_found(split, 0, 2) && has_reads(split, 1, 0), "an empty second log is shorter");
+    split = ringlog_search(three_taps, 0, other, 296);
+    check(is_found(split, 0, 1) && has_reads(split, 0, 1), "an empty first log is shorter");
+    split = ringlog_search(three_taps, 0, other, 0);
+    check(is_found(split, 0, 0) && has_reads(split, 0, 0), "two empty logs are the same");
+    check(memcmp(other, before, sizeof other) == 0, "a search touches no byte");
+}
+
+/* Entry 2 begins at 52; the top digest of entry 3 is at 259. */
+static void check_refused_searches(void)
+{
+    uint8_t other[296];
+
+    append_other_taps(other);
+    check(is_refused(ringlog_search(three_taps, 295, other, 295), 6, 1),
+          "two logs that do not open are 6 for the first");
+    check(is_refused(ringlog_search(three_taps, 296, other, 295), 6, 2),
+          "a second log that does not open is 6");
+    check(is_refused(ringlog_search(three_taps, 0, other, 295), 6, 2),
+          "it is also beside an empty log");
+    other[52] ^= 1;
+    check(is_refused(ringlog_search(three_taps, 296, other, 296), 6, 2),
+          "an entry met that is not shaped is 6");
+    check(is_refused(ringlog_search(other, 296, three_taps, 52), 6, 1),
+          "it is also on the way to entry n");
+    memcpy(other, three_taps, sizeof other);
+    other[259] ^= 1;
+    check(is_refused(ringlog_search(three_taps, 296, other, 296), 7, 3),
+          "equal children under unequal nodes are 7 for both");
+}
+
+static void check_repairs(void)
+{
+    uint8_t other[296];
+
+    append_other_taps(other);
+    check(is_piece(ringlog_repair(three_taps, 296, other, 296), 1, 52, 244),
+          "of equally many taps the first are the donor, from entry 2 on");
+    memcpy(other + 52, three_taps + 52, 244);
+    check(is_extent(ringlog_audit(other, 296), 3, 296), "with that piece the others audit whole");
+    append_other_taps(other);
+    check(is_piece(ringlog_repair(other, 174, three_taps, 296), 2, 52, 244),
+          "three taps are the donor of two");
+    check(is_piece(ringlog_repair(three_taps, 174, three_taps, 296), 2, 174, 122),
+          "a beginning lacks what is behind it");
+    check(is_piece(ringlog_repair(three_taps, 296, three_taps, 296), 1, 296, 0),
+          "equal logs have an empty piece at the end of the first");
+    check(is_piece(ringlog_repair(three_taps, 0, other, 296), 2, 0, 296),
+          "an empty log lacks the whole donor");
+    check(is_piece(ringlog_repair(three_taps, 0, other, 0), 1, 0, 0),
+          "two empty logs have an empty piece of the first");
+    check(is_piece(ringlog_repair(three_taps, 296, other, 295), 0, 0, 0),
+          "there is no piece where the search is refused");
+}
+
 int main(void)
 {
     check_layout();
@@ -258,6 +383,9 @@ int main(void)
     check_cuts();
     check_values();
     check_proofs();
+    check_searches();
+    check_refused_searches();
+    check_repairs();
     printf("%d passed, %d failed\n", passed, failed);
     return failed == 0 ? 0 : 1;
 }

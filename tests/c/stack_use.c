@@ -72,11 +72,15 @@ static size_t depth(void (*function)(void))
 static uint8_t message[LONGEST_MESSAGE];
 static uint8_t buffer[LOG];
 static size_t used;
+static uint8_t other[LOG];
+static size_t other_used;
 static uint8_t tap[TAP] = {0x10, 1, 2, 3, 4, 5, 6, 7, 8};
 static struct ringlog_digest digest;
 static struct ringlog_count count;
 static struct ringlog_extent extent;
 static struct ringlog_part part;
+static struct ringlog_split split;
+static struct ringlog_piece piece;
 static uint8_t proof[12 * 32];
 static bool accepted;
 
@@ -126,6 +130,16 @@ static void call_check_proof(void)
                                    digest.digest, sizeof digest.digest);
 }
 
+static void call_search(void)
+{
+    split = ringlog_search(buffer, used, other, other_used);
+}
+
+static void call_repair(void)
+{
+    piece = ringlog_repair(buffer, used, other, other_used);
+}
+
 /* A function that is known to take more than the limit. */
 static void call_deep(void)
 {
@@ -163,6 +177,21 @@ static int append_taps(int taps)
     return 1;
 }
 
+/* Whether another log of so many taps is made, which differs at the first. */
+static int append_other_taps(int taps)
+{
+    for (int i = 0; i < taps; i++) {
+        tap[1] ^= i == 0;
+        count = ringlog_append(other, sizeof other, other_used, tap, sizeof tap);
+        tap[1] ^= i == 0;
+        if (count.number != 0) {
+            return 0;
+        }
+        other_used = (size_t)count.value;
+    }
+    return 1;
+}
+
 /* The next entry has 11 nodes behind 2,047 taps, and 12 behind 4,095. */
 static void measure_log_calls(void)
 {
@@ -186,12 +215,31 @@ static void measure_log_calls(void)
     check(accepted, "that proof is accepted");
 }
 
+/* The ways to a difference at 1: by 12 links from entry 4,095, and by 12 from entry 2,049, to which
+   11 links of the longer log lead. */
+static void measure_searches(void)
+{
+    check(append_other_taps(4095), "4,095 other taps are appended");
+    measure("search of 4,095 taps and 4,095", call_search);
+    check(split.number == 0 && split.place == 1 && split.first_reads == 13,
+          "that search is answered");
+    measure("repair of 4,095 taps and 4,095", call_repair);
+    check(piece.donor == 1 && piece.offset == 0 && piece.length == used, "that piece is answered");
+    other_used = (size_t)ringlog_cut(other, sizeof other, other_used, 2049).value;
+    measure("search of 4,095 taps and 2,049", call_search);
+    check(split.number == 0 && split.place == 1 && split.first_reads == 24,
+          "that search is answered");
+    measure("repair of 4,095 taps and 2,049", call_repair);
+    check(piece.donor == 1 && piece.offset == 0 && piece.length == used, "that piece is answered");
+}
+
 int main(void)
 {
     check(depth(call_deep) >= 2 * LIMIT, "a function that takes much stack is seen to do so");
     measure("sha256 of 65,535 bytes", call_sha256);
     check(digest.number == 0, "that digest is answered");
     measure_log_calls();
+    measure_searches();
     printf("%d passed, %d failed\n", passed, failed);
     return failed == 0 ? 0 : 1;
 }

@@ -26,7 +26,7 @@ impl Forged {
         }
     }
 
-    fn count(&self) -> usize {
+    pub fn count(&self) -> usize {
         self.entries.len()
     }
 
@@ -79,7 +79,7 @@ impl Forged {
     }
 
     /// Every left digest is the one that the left child's entry stores for it.
-    fn link_digests(&mut self) {
+    pub fn link_digests(&mut self) {
         for i in 2..=self.count() {
             for h in heights(i) {
                 let (l, p) = left_child(i, h);
@@ -88,8 +88,16 @@ impl Forged {
         }
     }
 
-    /// Some links lead elsewhere, or store another digest.
-    fn mislink(&mut self, random: &mut Random) {
+    /// Stores this digest for the leaf (i, 0), or for the node (i, h) as its own.
+    pub fn tell(&mut self, (i, h): (usize, u8), digest: Digest) {
+        match h {
+            0 => self.entry(i).leaf = digest,
+            _ => self.node(i, h).own = digest,
+        }
+    }
+
+    /// Some links lead elsewhere, or store another digest. There are two entries or more.
+    pub fn mislink(&mut self, random: &mut Random) {
         for _ in 0..=random.up_to(2) {
             let i = 2 + random.up_to(self.count() - 2);
             let heights = heights(i);
@@ -118,12 +126,17 @@ impl Forged {
 /// A log of which all links hold and no digest is worked out: each is one of so many.
 pub fn invented(count: usize, pool: usize, random: &mut Random) -> Forged {
     let pool: Vec<_> = (0..pool).map(|_| random.digest()).collect();
+    invented_from(count, &pool, random)
+}
+
+/// A log of which all links hold and no digest is worked out: each is one of these.
+pub fn invented_from(count: usize, pool: &[Digest], random: &mut Random) -> Forged {
     let digest = |random: &mut Random| pool[random.up_to(pool.len() - 1)];
     let mut forged = Forged::of(&logs::log(count, random));
     for i in 1..=count {
-        forged.entry(i).leaf = digest(random);
+        forged.tell((i, 0), digest(random));
         for h in heights(i) {
-            forged.node(i, h).own = digest(random);
+            forged.tell((i, h), digest(random));
         }
     }
     forged.link_digests();
@@ -135,25 +148,38 @@ pub fn any(most: usize, random: &mut Random) -> Vec<u8> {
     let count = random.up_to(most);
     let log = logs::log(count, random);
     if count < 2 {
-        return bent(log.bytes().to_vec(), random.up_to(1), random);
+        return damaged(&log, random);
     }
     match random.up_to(9) {
-        0 => log.bytes().to_vec(),
-        1 => log.bytes()[..random.up_to(log.bytes().len())].to_vec(),
-        2 => bent(log.bytes().to_vec(), 1 + random.up_to(2), random),
-        3 => Forged::of(&log).spread(20, random).bytes(),
-        4 => bent(Forged::of(&log).spread(20, random).bytes(), 1, random),
-        5 => invented(count, 1 + random.up_to(2), random).bytes(),
-        6 => lost(&log, random),
-        7 => {
+        0 => invented(count, 1 + random.up_to(2), random).bytes(),
+        1 => {
             let (index, offset) = (2 + random.up_to(4_094), 1 + random.up_to(200));
             logs::forged(index, offset, random)
         }
+        2 => {
+            let mut forged = invented(count, 2, random).spread(9, random);
+            forged.mislink(random);
+            forged.bytes()
+        }
+        _ => damaged(&log, random),
+    }
+}
+
+/// The log whole, torn or bent, with junk between its entries, with entries lost, or with links
+/// that do not hold.
+pub fn damaged(log: &Log, random: &mut Random) -> Vec<u8> {
+    if log.count() < 2 {
+        return bent(log.bytes().to_vec(), random.up_to(1), random);
+    }
+    match random.up_to(6) {
+        0 => log.bytes().to_vec(),
+        1 => log.bytes()[..random.up_to(log.bytes().len())].to_vec(),
+        2 => bent(log.bytes().to_vec(), 1 + random.up_to(2), random),
+        3 => Forged::of(log).spread(20, random).bytes(),
+        4 => bent(Forged::of(log).spread(20, random).bytes(), 1, random),
+        5 => lost(log, random),
         _ => {
-            let mut forged = match random.up_to(1) {
-                0 => Forged::of(&log).spread(9, random),
-                _ => invented(count, 2, random).spread(9, random),
-            };
+            let mut forged = Forged::of(log).spread(9, random);
             forged.mislink(random);
             forged.bytes()
         }

@@ -19,7 +19,7 @@ pub struct Fault {
 
 impl Fault {
     /// The refusal of a left step by this link: 6 before 7.
-    fn refusal(self) -> Option<u32> {
+    pub fn refusal(self) -> Option<u32> {
         match (self.place, self.digest) {
             (true, _) => Some(6),
             (_, true) => Some(7),

@@ -1,5 +1,7 @@
 //! The library, as include/ringlog.h declares it.
 
+use crate::model::comparison::Verdict;
+use crate::model::search::{Found, Refusal, Side};
 use std::ops::Range;
 
 /// `struct ringlog_digest`: number 0 and the digest, or the number of a refusal and zero bytes.
@@ -31,6 +33,29 @@ pub struct Extent {
 #[derive(Clone, Copy, Debug, PartialEq, Eq)]
 pub struct Part {
     pub number: u32,
+    pub offset: u64,
+    pub length: u64,
+}
+
+/// `struct ringlog_split`: number 0 and what a search has found, or the number of a refusal, its
+/// side and zeros.
+#[repr(C)]
+#[derive(Clone, Copy, Debug, Default, PartialEq, Eq)]
+pub struct Split {
+    pub number: u32,
+    pub side: u32,
+    pub common: u64,
+    pub verdict: u32,
+    pub place: u64,
+    pub first_reads: u64,
+    pub second_reads: u64,
+}
+
+/// `struct ringlog_piece`: a donor and a part of it, or zeros where the search refuses.
+#[repr(C)]
+#[derive(Clone, Copy, Debug, Default, PartialEq, Eq)]
+pub struct Piece {
+    pub donor: u32,
     pub offset: u64,
     pub length: u64,
 }
@@ -78,6 +103,67 @@ impl From<Result<Range<usize>, u32>> for Part {
     }
 }
 
+impl From<Side> for u32 {
+    fn from(side: Side) -> Self {
+        match side {
+            Side::First => 1,
+            Side::Second => 2,
+            Side::Both => 3,
+        }
+    }
+}
+
+impl From<Verdict> for u32 {
+    fn from(verdict: Verdict) -> Self {
+        match verdict {
+            Verdict::Same => 0,
+            Verdict::FirstShorter => 1,
+            Verdict::SecondShorter => 2,
+            Verdict::DifferAt(_) => 3,
+        }
+    }
+}
+
+/// A refused search, as the library answers it.
+impl From<Refusal> for Split {
+    fn from((side, number): Refusal) -> Self {
+        Split {
+            number,
+            side: side.into(),
+            ..Split::default()
+        }
+    }
+}
+
+/// What a search has found or a refusal, as the library answers it. The reads are counted.
+impl From<Result<Found, Refusal>> for Split {
+    fn from(answer: Result<Found, Refusal>) -> Self {
+        match answer {
+            Ok(found) => Split {
+                number: 0,
+                side: 0,
+                common: found.common as u64,
+                verdict: found.verdict.into(),
+                place: found.verdict.place().unwrap_or(0) as u64,
+                first_reads: found.read[0].len() as u64,
+                second_reads: found.read[1].len() as u64,
+            },
+            Err(refusal) => refusal.into(),
+        }
+    }
+}
+
+/// A repair piece, as the library answers it.
+impl From<Option<(Side, Range<usize>)>> for Piece {
+    fn from(answer: Option<(Side, Range<usize>)>) -> Self {
+        answer.map_or_else(Piece::default, |(donor, part)| Piece {
+            donor: donor.into(),
+            offset: part.start as u64,
+            length: part.len() as u64,
+        })
+    }
+}
+
 extern "C" {
     fn ringlog_sha256(message: *const u8, message_len: usize) -> Digest;
     fn ringlog_append(
@@ -114,6 +200,18 @@ extern "C" {
         root_len: usize,
     ) -> bool;
     fn ringlog_cut(buffer: *mut u8, buffer_len: usize, used: usize, count: usize) -> Count;
+    fn ringlog_search(
+        first: *const u8,
+        first_len: usize,
+        second: *const u8,
+        second_len: usize,
+    ) -> Split;
+    fn ringlog_repair(
+        first: *const u8,
+        first_len: usize,
+        second: *const u8,
+        second_len: usize,
+    ) -> Piece;
 }
 
 // SAFETY, of each call below: a slice's pointer is not null, also for an empty slice, and is good
@@ -160,4 +258,14 @@ pub fn check_proof(count: usize, index: usize, item: &[u8], proof: &[u8], root: 
 pub fn cut(buffer: &mut [u8], used: usize, count: usize) -> Count {
     let (start, len) = (buffer.as_mut_ptr(), buffer.len());
     unsafe { ringlog_cut(start, len, used, count) }
+}
+
+pub fn search(first: &[u8], second: &[u8]) -> Split {
+    let (second, second_len) = (second.as_ptr(), second.len());
+    unsafe { ringlog_search(first.as_ptr(), first.len(), second, second_len) }
+}
+
+pub fn repair(first: &[u8], second: &[u8]) -> Piece {
+    let (second, second_len) = (second.as_ptr(), second.len());
+    unsafe { ringlog_repair(first.as_ptr(), first.len(), second, second_len) }
 }

@@ -2,10 +2,13 @@
 //! this project.
 
 use ringlog_tests::forged::Forged;
-use ringlog_tests::links::RUNNING_OUT;
+use ringlog_tests::links::{MET_OF_EIGHT, RUNNING_OUT};
+use ringlog_tests::model::comparison::Verdict;
 use ringlog_tests::model::entry::last_entry;
 use ringlog_tests::model::inclusion::{fold, hops};
 use ringlog_tests::model::item::{is_value, VALUES};
+use ringlog_tests::model::reads::lefts;
+use ringlog_tests::model::search::Side;
 use ringlog_tests::model::tree::{
     heights, leaf_digest, left_child, node_digest, right_child, Tree,
 };
@@ -189,6 +192,22 @@ fn hops_are_those_of_the_bench_sheet_and_of_every_path() {
 }
 
 #[test]
+fn lefts_are_those_of_the_bench_sheet_and_of_every_way() {
+    let sheet = [(22, 18, 2), (7, 1, 3), (7, 7, 0), (7, 5, 2)];
+    for (n, i, expected) in sheet {
+        assert_eq!(lefts(n, i), expected, "lefts({n}, {i})");
+    }
+    let mut log = Log::default();
+    for n in 1..=130 {
+        log.push(&numbered_taps(1)[0]);
+        for i in 1..=n {
+            let way = bring_to(log.bytes(), last_met(log.bytes()), i).expect("a way");
+            assert_eq!(way.read.len(), lefts(n, i), "lefts({n}, {i})");
+        }
+    }
+}
+
+#[test]
 fn the_paths_of_seven_values_are_those_of_the_tree_written_out() {
     let paths: [&[(usize, u8)]; 7] = [
         &[(2, 0), (4, 1), (7, 2)],
@@ -299,4 +318,90 @@ fn forged_logs_are_what_they_are_said_to_be() {
     assert_eq!(model::cut(&bytes, bytes.len(), 2), Ok(124));
     let bytes = links::running_out(&mut random);
     assert_eq!(model::cut(&bytes, RUNNING_OUT, 2), Err(6));
+}
+
+#[test]
+fn the_comparison_stops_at_the_first_value_that_differs_or_where_a_list_ends() {
+    let [a, b, c] = [0x10, 0x11, 0x12].map(|kind| vec![kind; 9]);
+    let list = |values: &[&Vec<u8>]| values.iter().map(|&value| value.clone()).collect();
+    let compare = |first: &[&Vec<u8>], second: &[&Vec<u8>]| {
+        let (first, second): (Vec<_>, Vec<_>) = (list(first), list(second));
+        model::compare(&first, &second)
+    };
+    assert_eq!(compare(&[], &[]), (0, Verdict::Same));
+    assert_eq!(compare(&[&a, &b], &[&a, &b]), (2, Verdict::Same));
+    assert_eq!(compare(&[], &[&a]), (0, Verdict::FirstShorter));
+    assert_eq!(compare(&[&a], &[&a, &b]), (1, Verdict::FirstShorter));
+    assert_eq!(compare(&[&a, &b], &[&a]), (1, Verdict::SecondShorter));
+    assert_eq!(compare(&[&a], &[&b]), (0, Verdict::DifferAt(1)));
+    assert_eq!(
+        compare(&[&a, &b, &c], &[&a, &c, &b]),
+        (1, Verdict::DifferAt(2))
+    );
+    assert_eq!(compare(&[&a, &b], &[&a, &c, &b]), (1, Verdict::DifferAt(2)));
+}
+
+/// Logs of eight values that differ at i, with all values behind it, and logs of 22 and 18 values
+/// that differ at 17: entry 22, then 20 and 18 to bring it to 18, then 17.
+#[test]
+fn the_entries_that_a_search_reads_are_those_written_out() {
+    let list = numbered_values(22);
+    let log = Log::of(&list);
+    let parted_at = |i: usize| {
+        let mut list = list.clone();
+        list[i - 1..].rotate_left(1);
+        Log::of(&list)
+    };
+    let places = |log: &Log, entries: &[usize]| {
+        let place = |&i: &usize| log.end(i - 1)..log.end(i);
+        entries.iter().map(place).collect::<Vec<_>>()
+    };
+    for (i, met) in (1..=8).zip(MET_OF_EIGHT) {
+        let other = parted_at(i);
+        let found = model::search(log.beginning(8), other.beginning(8)).expect("an answer");
+        assert_eq!(found.read, [places(&log, met), places(&other, met)], "{i}");
+        assert_eq!(found.verdict, Verdict::DifferAt(i));
+        let reached = [places(&log, &[i]), places(&other, &[i])].concat();
+        assert_eq!(found.reached[..], reached, "{i}");
+    }
+    let other = parted_at(17);
+    let found = model::search(log.bytes(), other.beginning(18)).expect("an answer");
+    let read = [places(&log, &[22, 20, 18, 17]), places(&other, &[18, 17])];
+    assert_eq!((found.common, found.read), (16, read));
+    let found = model::search(log.beginning(18), log.bytes()).expect("an answer");
+    let read = [places(&log, &[18]), places(&log, &[22, 20, 18])];
+    assert_eq!((found.common, found.read), (18, read));
+}
+
+/// Two taps: the digests of leaf 1, the link to it and the node stand at 15, 105 and 137.
+#[test]
+fn searches_of_two_taps_are_refused_as_written_out() {
+    let list = numbered_taps(3);
+    let log = Log::of(&list[..2]).bytes().to_vec();
+    let other = Log::of(&list[1..]).bytes().to_vec();
+    let bent = |log: &[u8], places: &[usize]| {
+        let mut bytes = log.to_vec();
+        places.iter().for_each(|&at| bytes[at] ^= 0x01);
+        bytes
+    };
+    let search = |first: &[u8], second: &[u8]| model::search(first, second).err();
+    assert_eq!(search(&log, &other), None);
+    assert_eq!(search(&log, &bent(&log, &[15])), None);
+    assert_eq!(search(&log, &bent(&log, &[137])), Some((Side::Both, 7)));
+    assert_eq!(search(&log, &bent(&other, &[15])), Some((Side::Second, 7)));
+    assert_eq!(search(&bent(&log, &[105]), &other), Some((Side::First, 7)));
+    assert_eq!(search(&log, &bent(&other, &[0])), Some((Side::Second, 6)));
+    let both = (bent(&log, &[15]), bent(&other, &[0]));
+    assert_eq!(search(&both.0, &both.1), Some((Side::First, 7)));
+    assert_eq!(search(&both.1, &both.0), Some((Side::First, 6)));
+    let closed = bent(&log, &[173]);
+    assert_eq!(search(&closed, &[]), Some((Side::First, 6)));
+    assert_eq!(search(&[], &closed), Some((Side::Second, 6)));
+    assert_eq!(search(&closed, &closed), Some((Side::First, 6)));
+    assert_eq!(model::repair(&log, &bent(&log, &[137])), None);
+    assert_eq!(model::repair(&log, &other), Some((Side::First, 0..174)));
+    let one = &log[..52];
+    assert_eq!(model::repair(one, &log), Some((Side::Second, 52..174)));
+    assert_eq!(model::repair(&log, &log), Some((Side::First, 174..174)));
+    assert_eq!(model::repair(&[], one), Some((Side::Second, 0..52)));
 }

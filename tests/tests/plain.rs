@@ -1,10 +1,11 @@
 //! The plain Rust that the benchmark measures against the model: append and audit that make each
-//! entry from the strata before it.
+//! entry from the strata before it, and the search.
 
 use ringlog_tests::logs::{self, LONGEST_ENTRY, LONGEST_LOG, MASKS};
 use ringlog_tests::model::Log;
+use ringlog_tests::pairs::{self, parted_at, values, with_others};
 use ringlog_tests::random::Random;
-use ringlog_tests::{model, plain, refused};
+use ringlog_tests::{links, model, plain, refused};
 
 fn assert_audits_agree(bytes: &[u8], case: impl Fn() -> String) {
     assert_eq!(plain::audit(bytes), model::audit(bytes), "{}", case());
@@ -98,5 +99,110 @@ fn refused_appends_agree() {
     }
     for used in [101, (1 << 32) + 52, usize::MAX] {
         assert_appends_agree(&[0; 100], used, &tap, || format!("used {used}"));
+    }
+}
+
+fn assert_searches_agree(first: &[u8], second: &[u8], case: impl Fn() -> String) {
+    let expected = model::search(first, second).into();
+    assert_eq!(plain::search(first, second), expected, "{}", case());
+}
+
+#[test]
+fn searches_of_whole_logs_agree() {
+    let mut random = Random::new(7);
+    let list = values(40, &mut random);
+    let log = Log::of(&list);
+    for common in 0..=40 {
+        let other = Log::of(&parted_at(&list, common + 1, &mut random));
+        for m1 in common..=40 {
+            for m2 in common..=40 {
+                let case = || format!("{m1} and {m2} values, {common} in common");
+                assert_searches_agree(log.beginning(m1), other.beginning(m2), case);
+            }
+        }
+    }
+}
+
+#[test]
+fn searches_of_full_logs_agree() {
+    let mut random = Random::new(8);
+    let list = values(4_096, &mut random);
+    let log = Log::of(&list);
+    for i in [1, 2, 2_048, 2_049, 4_095, 4_096] {
+        let other = Log::of(&with_others(&list, &[i], &mut random));
+        for m in [1, 2_047, 2_048, 2_049, 4_095, 4_096] {
+            let case = || format!("4,096 and {m} values that differ at {i}");
+            assert_searches_agree(log.bytes(), other.beginning(m), case);
+            assert_searches_agree(other.beginning(m), log.bytes(), case);
+        }
+    }
+}
+
+#[test]
+fn searches_of_torn_bent_and_forged_logs_agree() {
+    let mut random = Random::new(9);
+    let mut met = [0; 8];
+    for round in 0..30_000 {
+        let most = if round % 8 == 0 { 70 } else { 12 };
+        let (first, second) = match round % 2 {
+            0 => pairs::mislinked(most, &mut random),
+            _ => pairs::any(most, &mut random),
+        };
+        let case = || format!("round {round}: {first:02x?} and {second:02x?}");
+        assert_searches_agree(&first, &second, case);
+        met[plain::search(&first, &second).number as usize] += 1;
+    }
+    assert!([0, 6, 7].iter().all(|&no| met[no] > 1_000), "{met:?}");
+    let log = logs::log(8, &mut random);
+    let other = logs::log(8, &mut random);
+    for mislinked in links::mislinked(&log) {
+        let bytes = mislinked.forged.bytes();
+        for m in 1..=8 {
+            let case = || format!("{:?} and {m} values", mislinked.faults);
+            assert_searches_agree(&bytes, other.beginning(m), case);
+            assert_searches_agree(log.beginning(m), &bytes, case);
+        }
+    }
+}
+
+#[test]
+fn searches_of_bent_logs_agree() {
+    let mut random = Random::new(10);
+    let list = values(9, &mut random);
+    let log = Log::of(&list);
+    let other = Log::of(&with_others(&list, &[1], &mut random));
+    let mut bytes = log.bytes().to_vec();
+    for at in 0..bytes.len() {
+        for mask in MASKS {
+            bytes[at] ^= mask;
+            let case = || format!("byte {at} bent with {mask:#04x}");
+            assert_searches_agree(&bytes, other.bytes(), case);
+            assert_searches_agree(log.beginning(1), &bytes, case);
+            bytes[at] ^= mask;
+        }
+    }
+}
+
+#[test]
+fn searches_of_what_does_not_open_agree() {
+    let mut random = Random::new(11);
+    let log = logs::log(3, &mut random);
+    for (name, bytes) in refused::not_opening(&mut random) {
+        for partner in [&[], log.bytes(), &bytes] {
+            assert_searches_agree(&bytes, partner, || name.clone());
+            assert_searches_agree(partner, &bytes, || name.clone());
+        }
+    }
+    assert_searches_agree(&[], &[], || "two empty logs".to_string());
+    for _ in 0..50 {
+        let two = logs::log(2, &mut random);
+        let overlapping = links::overlapping(&mut random);
+        let running_out = links::running_out(&mut random);
+        let elsewhere = links::entry_1_elsewhere(&mut random);
+        for bytes in [&overlapping, &running_out[..links::RUNNING_OUT], &elsewhere] {
+            let case = || format!("{bytes:02x?}");
+            assert_searches_agree(bytes, two.bytes(), case);
+            assert_searches_agree(bytes, two.beginning(1), case);
+        }
     }
 }

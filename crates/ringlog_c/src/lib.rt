@@ -14,8 +14,12 @@ ghost use Rattle.ringlog.specs.Root.{rootAnswer};
 ghost use Rattle.inclusion.specs.Check.{proofHolds};
 ghost use Rattle.inclusion.specs.Prove.{proofOf};
 ghost use Rattle.inclusion.specs.Value.{checkedValue};
-ghost use Rattle.ringlog_c.specs.Wire.{countWire, digestWire, extentWire, partWire, rootWire};
+ghost use Rattle.split.specs.Answer.{answerOf, splitOf};
+ghost use Rattle.split.specs.Repair.{placeOf};
+ghost use Rattle.split.specs.Search.{searched};
+ghost use Rattle.ringlog_c.specs.Wire.{countWire, digestWire, extentWire, partWire, pieceWire, rootWire, splitWire};
 use ringlog::Counted;
+use split::SearchAnswer;
 
 // struct ringlog_count
 #[repr(C)]
@@ -42,6 +46,26 @@ pub struct DigestWire {
 #[repr(C)]
 pub struct PartWire {
     pub number: u32,
+    pub offset: u64,
+    pub length: u64,
+}
+
+// struct ringlog_split
+#[repr(C)]
+pub struct SplitWire {
+    pub number: u32,
+    pub side: u32,
+    pub common: u64,
+    pub verdict: u32,
+    pub place: u64,
+    pub first_reads: u64,
+    pub second_reads: u64,
+}
+
+// struct ringlog_piece
+#[repr(C)]
+pub struct PieceWire {
+    pub donor: u32,
     pub offset: u64,
     pub length: u64,
 }
@@ -144,4 +168,54 @@ pub extern "C" fn ringlog_check_proof(
     ensures { λ r. ⌜ r ≡ proofHolds count index (now (item .entry)) (now (proof .entry)) (now (root .entry)) ⌝ }
 {
     inclusion::check_proof(count, index, item, proof, root)
+}
+
+// The search's answer or its refusal, by numbers.
+fn split_wire(answer: SearchAnswer) -> SplitWire
+    ensures { λ r. ⌜ r ≡ splitWire (answerOf answer) ⌝ }
+{
+    match answer {
+        SearchAnswer::Answered {
+            common,
+            verdict,
+            first_reads,
+            second_reads,
+        } => SplitWire {
+            number: 0,
+            side: 0,
+            common: common as u64,
+            verdict: verdict.number(),
+            place: verdict.place() as u64,
+            first_reads: first_reads as u64,
+            second_reads: second_reads as u64,
+        },
+        SearchAnswer::Refused(side, cause) => SplitWire {
+            number: cause.number(),
+            side: side.number(),
+            common: 0,
+            verdict: 0,
+            place: 0,
+            first_reads: 0,
+            second_reads: 0,
+        },
+    }
+}
+
+#[no_mangle]
+pub extern "C" fn ringlog_search(first: &[u8], second: &[u8]) -> SplitWire
+    ensures { λ r. ⌜ r ≡ splitWire (splitOf (searched (now (first .entry)) (now (second .entry)))) ⌝ }
+{
+    split_wire(split::search(first, second))
+}
+
+#[no_mangle]
+pub extern "C" fn ringlog_repair(first: &[u8], second: &[u8]) -> PieceWire
+    ensures { λ r. ⌜ r ≡ pieceWire (placeOf (now (first .entry)) (now (second .entry)) (searched (now (first .entry)) (now (second .entry)))) ⌝ }
+{
+    let piece = split::repair_place(first, second);
+    PieceWire {
+        donor: piece.donor,
+        offset: piece.offset as u64,
+        length: piece.length as u64,
+    }
 }

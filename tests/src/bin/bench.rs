@@ -1,9 +1,10 @@
-//! How long the library and plain Rust take for digests, audits and an append, measured in turn in
-//! one process, on warm buffers. The time is the processor's: an audit of a long log takes longer
-//! than the system lets a process run at a stretch where others want the machine.
+//! How long the library and plain Rust take for digests, audits, an append and searches, measured
+//! in turn in one process, on warm buffers. The time is the processor's: an audit of a long log
+//! takes longer than the system lets a process run at a stretch where others want the machine.
 //!
 //! From the folder tests/: `cargo run --release --bin bench`
 
+use ringlog_tests::model::Log;
 use ringlog_tests::random::Random;
 use ringlog_tests::{logs, model, plain, processor, ringlog};
 use std::fmt::Debug;
@@ -82,9 +83,8 @@ impl Row {
     fn audit(taps: usize, batch: (u32, usize)) -> Self {
         let log = logs::taps(taps, &mut Random::new(2)).bytes().to_vec();
         let again = log.clone();
-        let plural = if taps == 1 { "" } else { "s" };
         Row::new(
-            &format!("audit of {taps} tap{plural}"),
+            &format!("audit {}", of_taps(taps)),
             batch,
             move || ringlog::audit(black_box(&log)),
             move || plain::audit(black_box(&again)).into(),
@@ -107,6 +107,29 @@ impl Row {
         )
     }
 
+    /// Two logs of so many taps that differ at value i, or are the same where there is no i.
+    fn search(taps: usize, differ_at: Option<usize>, calls: u32) -> Self {
+        let mut random = Random::new(4);
+        let mut values: Vec<_> = (0..taps).map(|_| logs::tap(&mut random)).collect();
+        let first = Log::of(&values).bytes().to_vec();
+        if let Some(i) = differ_at {
+            values[i - 1] = logs::tap(&mut random);
+        }
+        let second = Log::of(&values).bytes().to_vec();
+        let again = (first.clone(), second.clone());
+        let of_taps = of_taps(taps);
+        let name = match differ_at {
+            Some(i) => format!("search {of_taps}, differ at {i}"),
+            None => format!("search {of_taps}, same"),
+        };
+        Row::new(
+            &name,
+            (calls, 1),
+            move || ringlog::search(black_box(&first), black_box(&second)),
+            move || plain::search(black_box(&again.0), black_box(&again.1)),
+        )
+    }
+
     fn run(&mut self, round: usize) {
         if round % self.every != 0 {
             return;
@@ -126,7 +149,7 @@ impl Row {
             let (library, plain) = (of(&self.library.times), of(&self.plain.times));
             let ratio = library / plain;
             let name = &self.name;
-            println!("{name:<22}  {what:<7}  {library:>12.1}  {plain:>12.1}  {ratio:>13.3}");
+            println!("{name:<36}  {what:<7}  {library:>12.1}  {plain:>12.1}  {ratio:>13.3}");
         }
     }
 }
@@ -152,6 +175,11 @@ fn black_box<T: Copy>(value: T) -> T {
     unsafe { std::ptr::read_volatile(&value) }
 }
 
+fn of_taps(taps: usize) -> String {
+    let plural = if taps == 1 { "" } else { "s" };
+    format!("of {taps} tap{plural}")
+}
+
 /// The compressions in an audit of so many taps: one a leaf, two a node.
 fn compressions(taps: usize) -> u32 {
     (0..taps).map(|x| 1 + 2 * x.count_ones()).sum()
@@ -169,7 +197,7 @@ fn print_beside_compressions(audit: &Row, taps: usize, long_message: &Row) {
         let library = ratio(&audit.library, &long_message.library);
         let plain = ratio(&audit.plain, &long_message.plain);
         let name = &audit.name;
-        println!("{name:<22}  {what:<7}  {library:>12.3}  {plain:>12.3}  {count:>13}");
+        println!("{name:<36}  {what:<7}  {library:>12.3}  {plain:>12.3}  {count:>13}");
     }
 }
 
@@ -184,17 +212,26 @@ fn main() {
         Row::audit(1, (100, 1)),
         Row::audit(4_095, (1, 15)),
         Row::append(4_095, 10),
+        Row::search(1, None, 100),
+        Row::search(1, Some(1), 100),
+        Row::search(4_095, None, 100),
+        Row::search(4_095, Some(1), 100),
+        Row::search(4_095, Some(2_048), 100),
+        Row::search(4_095, Some(4_095), 100),
     ];
     for round in 0..ROUNDS {
         rows.iter_mut().for_each(|row| row.run(round));
     }
-    println!("ns/call                              library         plain  library/plain");
+    let heading = |what: &str, last: &str| {
+        println!("{what:<45}  {:>12}  {:>12}  {last:>13}", "library", "plain")
+    };
+    heading("ns/call", "library/plain");
     rows.iter().for_each(Row::print);
     let (bytes, count) = LONG_MESSAGE;
     println!();
     println!("time / time of the compressions alone, one of them taken as 1/{count} of");
-    println!("sha256 of {bytes} bytes                library         plain   compressions");
-    let [_, _, _, long_message, audit_1, audit_4095, _] = &rows;
+    heading(&format!("sha256 of {bytes} bytes"), "compressions");
+    let [_, _, _, long_message, audit_1, audit_4095, ..] = &rows;
     print_beside_compressions(audit_1, 1, long_message);
     print_beside_compressions(audit_4095, 4_095, long_message);
 }
