@@ -10,23 +10,16 @@ use Rattle.split.proofs.LocateForms.{both-arrived, first-stopped, secon
 use Rattle.split.proofs.locate.locate_from.Statement.{statement}
 use Rattle.split.proofs.locate.locate_from.Tie as tie
 
--- each log has an entry of index n
+-- n is at least 1, and each log has an entry of that index
 module _ (c : tie.After-smaller) where
-  first-indexed : Indexed (c .before .before .before .args .first .now) (c .before .before .before .args .first-last)
-      (c .before .before .before .args .m) (c .smaller .result)
-  first-indexed = let p = c .before .before .before .pre in record {
-    opens = p .0 .0;
-    first = omega (arith, c .smaller .ensures, p .0 .1, p .1 .1);
-    high = omega (arith, c .smaller .ensures);
-  }
+  least : 1 ≤ c .smaller .result
+  least = let p = c .before .before .before .pre in omega (arith, c .smaller .ensures, p .0 .1, p .1 .1)
 
-  second-indexed : Indexed (c .before .before .before .args .second .now) (c .before .before .before .args .second-last)
-      (c .before .before .before .args .k) (c .smaller .result)
-  second-indexed = let p = c .before .before .before .pre in record {
-    opens = p .1 .0;
-    first = omega (arith, c .smaller .ensures, p .0 .1, p .1 .1);
-    high = omega (arith, c .smaller .ensures);
-  }
+  first-indexed : let a = c .before .before .before .args in Indexed (a .first .now) (a .first-last) (a .m) (c .smaller .result)
+  first-indexed = record { opens = c .before .before .before .pre .0 .0; first = least; high = omega (arith, c .smaller .ensures) }
+
+  second-indexed : let a = c .before .before .before .args in Indexed (a .second .now) (a .second-last) (a .k) (c .smaller .result)
+  second-indexed = record { opens = c .before .before .before .pre .1 .0; first = least; high = omega (arith, c .smaller .ensures) }
 
 bring-requires : tie.Need-bring-requires
 bring-requires c κs = let i = first-indexed c in (i .opens, (i .first, i .high))
