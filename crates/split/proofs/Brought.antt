@@ -7,7 +7,7 @@ use native.Mathlib.Omega.{arith}
 use lib.ListN.{length}
 use lib.Seq.{take-all}
 use Rattle.slate.specs.Digits.{base, left, maxHeight}
-use Rattle.slate.specs.Moves.{lefts, leftsFrom}
+use Rattle.slate.specs.Moves.{lefts}
 use Rattle.entry.specs.Read.{digestAt, entryLenAt}
 use Rattle.entry.specs.Shape.{Inside, openedLog}
 use Rattle.entry.specs.Walk.{Kept, Place, SameEntry, arrived, descend}
@@ -15,9 +15,8 @@ use Rattle.entry.specs.declared.Opened.the-variants as opened
 use Rattle.split.specs.Search.{opening}
 use Rattle.slate.proofs.Bits.{base-under, base-zero, no-left, whole-base}
 use Rattle.slate.proofs.Cases.{by-digit, by-order}
-use Rattle.slate.proofs.Formulas.{lefts-formula}
+use Rattle.entry.proofs.Claimed.{descent-reads}
 use Rattle.entry.proofs.Descents.{Stepped, descend-inside, descend-local, descend-none, descend-right, descend-stepped}
-use Rattle.entry.proofs.LogDescent.{descend-reads}
 use Rattle.entry.proofs.Shaped.{opened-empty, opened-local, opened-shaped, same-window, shaped-inside}
 use Rattle.entry.proofs.Windows.{Window, digest-window, entryLen-window}
 use Rattle.split.proofs.Downs.{leftEntry}
@@ -55,9 +54,7 @@ pub descend-lefts : (b : List ℕ) (o x t l : ℕ) (qs : List Place) → t ≤ x
 descend-lefts b o x t l qs high few h =
     let ex : suc x - 1 ≡ x = omega arith in
     let et : suc t - 1 ≡ t = omega arith in
-    let e : lefts (suc x) (suc t) ≡ leftsFrom x maxHeight t =
-    rw (ex, et) at (lefts-formula (suc x) (suc t) (omega arith) (omega arith) (omega arith)) in
-    descend-reads b o x maxHeight t l qs h ∙ sym e
+    descent-reads b o (suc x) (suc t) l qs (omega arith) (omega arith) (omega arith) (rw (ex, et) h)
 
 -- ---- opening
 
