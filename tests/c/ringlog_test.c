@@ -1,4 +1,5 @@
-/* The C interface as a C program sees it: the layout of its structs, known digests, short logs. */
+/* The C interface as a C program sees it: the layout of its structs, its names for numbers, known
+   digests, short logs, and the sizes of full ones. */
 
 #include "ringlog.h"
 
@@ -117,6 +118,37 @@ static void check_layout(void)
     check(offsetof(struct ringlog_piece, donor) == 0, "its donor is at offset 0");
     check(offsetof(struct ringlog_piece, offset) == 8, "its offset is at offset 8");
     check(offsetof(struct ringlog_piece, length) == 16, "its length is at offset 16");
+}
+
+/* The names stand for document 01's numbers; it leaves those of sides and verdicts free. */
+static void check_names(void)
+{
+    check(RINGLOG_MOST_VALUES == 4096, "a log has at most 4,096 values");
+    check(RINGLOG_LONGEST_LOG == 2097152, "the longest log has 2,097,152 bytes");
+    check(RINGLOG_LONGEST_ENTRY == 932, "the longest entry has 932 bytes");
+    check(RINGLOG_LONGEST_ITEM == 49, "the longest value item has 49 bytes");
+    check(RINGLOG_LONGEST_PROOF == 384, "the longest proof has 384 bytes");
+    check(RINGLOG_LONGEST_MESSAGE == 65535, "the longest message has 65,535 bytes");
+    check(RINGLOG_DIGEST == 32, "a digest has 32 bytes");
+    check(RINGLOG_TAP == 0x10, "a tap is 0x10");
+    check(RINGLOG_CHANGE == 0x11, "a stored-value change is 0x11");
+    check(RINGLOG_TICKET == 0x12, "a ticket is 0x12");
+    check(RINGLOG_ANSWERED == 0, "no refusal is 0");
+    check(RINGLOG_BAD_LENGTH == 1, "a wrong used, root or message is 1");
+    check(RINGLOG_BAD_INDEX == 2, "a wrong index is 2");
+    check(RINGLOG_BAD_ITEM == 3, "a wrong value item is 3");
+    check(RINGLOG_FULL == 4, "a full log is 4");
+    check(RINGLOG_NO_ROOM == 5, "no room for the entry is 5");
+    check(RINGLOG_BAD_SHAPE == 6, "a log that does not open, or a wrong entry met, is 6");
+    check(RINGLOG_BAD_DIGEST == 7, "a digest that disagrees is 7");
+    check(RINGLOG_NO_ROOM_FOR_PROOF == 8, "no room for the proof is 8");
+    check(RINGLOG_FIRST == 1, "the first log is 1");
+    check(RINGLOG_SECOND == 2, "the second log is 2");
+    check(RINGLOG_BOTH == 3, "both logs are 3");
+    check(RINGLOG_SAME == 0, "same is 0");
+    check(RINGLOG_FIRST_SHORTER == 1, "first shorter is 1");
+    check(RINGLOG_SECOND_SHORTER == 2, "second shorter is 2");
+    check(RINGLOG_DIFFER == 3, "differ is 3");
 }
 
 static void check_known_digests(void)
@@ -241,6 +273,8 @@ static void check_values(void)
     check(is_part(ringlog_value(three_taps, 296, root.digest, 32, 4), 2, 0, 0), "index n + 1 is 2");
     check(is_part(ringlog_value(three_taps, 0, root.digest, 32, 0), 2, 0, 0),
           "index 0 of an empty log is 2");
+    check(is_part(ringlog_value(three_taps, 174, root.digest, 32, 1), 7, 0, 0),
+          "the root of more values is 7");
     root = ringlog_root(three_taps, 174);
     check(is_part(ringlog_value(three_taps, 296, root.digest, 32, 1), 7, 0, 0),
           "the root of fewer values is 7");
@@ -268,6 +302,8 @@ static void check_proofs(void)
     check(proof[64] == 0x5a, "the rest of the output stays");
     check(ringlog_check_proof(3, 1, first_tap, 9, proof, 64, root.digest, 32),
           "that proof is accepted");
+    check(ringlog_check_proof(4, 1, first_tap, 9, proof, 64, root.digest, 32),
+          "it is for 4 values too, of which value 1 has the same path");
     check(!ringlog_check_proof(3, 1, second_tap, 9, proof, 64, root.digest, 32),
           "another tap is not");
     check(!ringlog_check_proof(3, 2, first_tap, 9, proof, 64, root.digest, 32),
@@ -371,9 +407,73 @@ static void check_repairs(void)
           "there is no piece where the search is refused");
 }
 
+static uint8_t full[RINGLOG_LONGEST_LOG];
+
+/* How many bytes a log of so many equal values takes, or 0 where an append is refused. */
+static size_t length_of(int values, const uint8_t *item, size_t item_len)
+{
+    size_t used = 0;
+
+    for (int i = 0; i < values; i++) {
+        struct ringlog_count count = ringlog_append(full, sizeof full, used, item, item_len);
+
+        if (count.number != 0) {
+            return 0;
+        }
+        used = (size_t)count.value;
+    }
+    return used;
+}
+
+/* The first entry and the longest one of each kind, and the log of 4,096 values. */
+static void check_sizes(void)
+{
+    static const uint8_t change[17] = {0x11};
+    static const uint8_t ticket[49] = {0x12};
+    size_t used;
+
+    check(length_of(1, first_tap, 9) == 52, "a first tap takes 52 bytes");
+    check(length_of(1, change, 17) == 60, "a first change takes 60");
+    check(length_of(1, ticket, 49) == 92, "a first ticket takes 92");
+    check(length_of(8, first_tap, 9) == 1256, "eight taps end at 1,256");
+    used = length_of(4095, first_tap, 9);
+    check(used == 1933312 - 892, "the last of 4,096 taps takes 892");
+    check(length_of(4096, first_tap, 9) == 1933312, "4,096 taps take 1,933,312");
+    used = length_of(4095, change, 17);
+    check(used == 1966080 - 900, "the last of 4,096 changes takes 900");
+    check(length_of(4096, change, 17) == 1966080, "4,096 changes take 1,966,080");
+    used = length_of(4095, ticket, 49);
+    check(used == RINGLOG_LONGEST_LOG - RINGLOG_LONGEST_ENTRY,
+          "the last of 4,096 tickets is the longest entry");
+    check(is_count(ringlog_append(full, sizeof full - 1, used, ticket, 49), 5, 0),
+          "a buffer that is shorter than the longest log is 5");
+    check(is_count(ringlog_append(full, sizeof full, used, ticket, 49), 0, RINGLOG_LONGEST_LOG),
+          "4,096 tickets take the longest log");
+}
+
+/* The log of 4,096 tickets that the sizes were checked with. */
+static void check_full_log(void)
+{
+    static const uint8_t ticket[49] = {0x12};
+    uint8_t proof[RINGLOG_LONGEST_PROOF];
+    struct ringlog_digest root = ringlog_root(full, sizeof full);
+
+    check(is_count(ringlog_append(full, sizeof full, sizeof full, ticket, 49), 4, 0),
+          "an append to 4,096 values is 4, also without room");
+    check(is_extent(ringlog_audit(full, sizeof full), 4096, 2097152),
+          "the log of 4,096 tickets counts in full");
+    check(is_count(ringlog_proof(full, sizeof full, 1, proof, sizeof proof - 1), 8, 0),
+          "an output that is shorter than the longest proof is 8");
+    check(is_count(ringlog_proof(full, sizeof full, 1, proof, sizeof proof), 0, 384),
+          "the proof of value 1 of 4,096 is the longest");
+    check(ringlog_check_proof(4096, 1, ticket, 49, proof, 384, root.digest, 32),
+          "that proof of value 1 of 4,096 is accepted");
+}
+
 int main(void)
 {
     check_layout();
+    check_names();
     check_known_digests();
     check_longest();
     check_log_of_two_taps();
@@ -386,6 +486,8 @@ int main(void)
     check_searches();
     check_refused_searches();
     check_repairs();
+    check_sizes();
+    check_full_log();
     printf("%d passed, %d failed\n", passed, failed);
     return failed == 0 ? 0 : 1;
 }
