@@ -36,34 +36,29 @@
 #include <stdlib.h>
 #include <string.h>
 
-#define LONGEST_LOG 2097152 /* 4,096 tickets */
-#define LONGEST_ITEM 49     /* a ticket: its kind and 48 bytes */
-#define LONGEST_PROOF 384
-#define DIGEST 32
-
 enum { SAME = 0, NOT_SAME = 1, UNUSABLE = 2 };
 
 /* A log in memory. Once keep_well_formed has answered true, its first `used` bytes are a
    well-formed log of `entries` values with this root. */
 struct log {
-    uint8_t bytes[LONGEST_LOG];
+    uint8_t bytes[RINGLOG_LONGEST_LOG];
     size_t used;
     size_t entries;
-    uint8_t root[DIGEST];
+    uint8_t root[RINGLOG_DIGEST];
 };
 
 /* What the number of a refusal means. */
 static const char *meaning(uint32_t number)
 {
     switch (number) {
-    case 1: return "used is above the buffer, a root has not 32 bytes or a message is too long";
-    case 2: return "no such index";
-    case 3: return "no value item";
-    case 4: return "the log has 4,096 entries already";
-    case 5: return "no room for the entry";
-    case 6: return "the log does not open or a link leads to no entry that fits";
-    case 7: return "a digest disagrees";
-    case 8: return "no room for the proof";
+    case RINGLOG_BAD_LENGTH: return "used above the buffer, no root, or too long a message";
+    case RINGLOG_BAD_INDEX: return "no such index";
+    case RINGLOG_BAD_ITEM: return "no value item";
+    case RINGLOG_FULL: return "the log has 4,096 entries already";
+    case RINGLOG_NO_ROOM: return "no room for the entry";
+    case RINGLOG_BAD_SHAPE: return "the log does not open or a link leads to no entry that fits";
+    case RINGLOG_BAD_DIGEST: return "a digest disagrees";
+    case RINGLOG_NO_ROOM_FOR_PROOF: return "no room for the proof";
     default: return "a number that this app does not know";
     }
 }
@@ -71,14 +66,14 @@ static const char *meaning(uint32_t number)
 /* Whether a call was answered. A refusal is printed, with its number and what that means. */
 static bool answered(const char *call, uint32_t number)
 {
-    if (number != 0) {
+    if (number != RINGLOG_ANSWERED) {
         printf("%s: refused with %" PRIu32 ", %s\n", call, number, meaning(number));
     }
-    return number == 0;
+    return number == RINGLOG_ANSWERED;
 }
 
-/* Whether the file could be read and has at most LONGEST_LOG bytes. They are in the log then, and
-   nothing is known of them yet. */
+/* Whether the file could be read and is no longer than the longest log. Its bytes are in the log
+   then, and nothing is known of them yet. */
 static bool read_file(const char *name, struct log *log)
 {
     FILE *file = fopen(name, "rb");
@@ -86,15 +81,15 @@ static bool read_file(const char *name, struct log *log)
     bool failed = true;
 
     if (file != NULL) {
-        log->used = fread(log->bytes, 1, LONGEST_LOG, file);
-        longer = log->used == LONGEST_LOG && fgetc(file) != EOF;
+        log->used = fread(log->bytes, 1, RINGLOG_LONGEST_LOG, file);
+        longer = log->used == RINGLOG_LONGEST_LOG && fgetc(file) != EOF;
         failed = ferror(file) != 0;
         fclose(file);
     }
     if (failed) {
         fprintf(stderr, "%s: cannot be read\n", name);
     } else if (longer) {
-        fprintf(stderr, "%s: over %d bytes\n", name, LONGEST_LOG);
+        fprintf(stderr, "%s: over %d bytes\n", name, RINGLOG_LONGEST_LOG);
     }
     return !failed && !longer;
 }
@@ -120,9 +115,9 @@ static bool keep_well_formed(const char *name, struct log *log)
            extent.bytes, log->used, extent.bytes == log->used ? "whole" : "torn");
     log->entries = (size_t)extent.entries;
     log->used = (size_t)extent.bytes;
-    memcpy(log->root, root.digest, DIGEST);
+    memcpy(log->root, root.digest, RINGLOG_DIGEST);
     printf("root: ");
-    for (size_t i = 0; i < DIGEST; i++) {
+    for (size_t i = 0; i < RINGLOG_DIGEST; i++) {
         printf("%02x", (unsigned)log->root[i]);
     }
     printf("\n");
@@ -144,7 +139,7 @@ static bool find_split(const struct log *ring, const struct log *copy, size_t *c
         return false;
     }
     printf("split: %s", verdicts[split.verdict & 3]);
-    if (split.verdict == 3) {
+    if (split.verdict == RINGLOG_DIFFER) {
         printf(" at %" PRIu64, split.place);
     }
     printf(", in common %" PRIu64 "\n", split.common);
@@ -159,18 +154,19 @@ static bool find_split(const struct log *ring, const struct log *copy, size_t *c
 static bool take_piece(struct log *copy, size_t common, const struct log *ring,
                        struct ringlog_piece piece)
 {
-    struct ringlog_count end = ringlog_cut(copy->bytes, LONGEST_LOG, copy->used, common);
+    struct ringlog_count end = ringlog_cut(copy->bytes, RINGLOG_LONGEST_LOG, copy->used, common);
 
     if (!answered("cut", end.number)) {
         return false;
     }
-    if (piece.length > LONGEST_LOG - end.value) {
+    if (piece.length > RINGLOG_LONGEST_LOG - end.value) {
         printf("take: no room\n");
         return false;
     }
     memcpy(copy->bytes + end.value, ring->bytes + piece.offset, (size_t)piece.length);
     copy->used = (size_t)(end.value + piece.length);
-    return keep_well_formed("repaired", copy) && memcmp(copy->root, ring->root, DIGEST) == 0;
+    return keep_well_formed("repaired", copy)
+        && memcmp(copy->root, ring->root, RINGLOG_DIGEST) == 0;
 }
 
 /* True only if copy and ring are the same log now. Where the copy is the donor it stays as it is,
@@ -178,7 +174,7 @@ static bool take_piece(struct log *copy, size_t common, const struct log *ring,
 static bool repair(struct log *copy, size_t common, const struct log *ring)
 {
     struct ringlog_piece piece = ringlog_repair(ring->bytes, ring->used, copy->bytes, copy->used);
-    bool take = piece.donor == 1;
+    bool take = piece.donor == RINGLOG_FIRST;
     bool same;
 
     if (piece.donor == 0) {
@@ -197,9 +193,9 @@ static bool repair(struct log *copy, size_t common, const struct log *ring)
 static const char *kind_name(uint8_t kind)
 {
     switch (kind) {
-    case 0x10: return "tap";
-    case 0x11: return "stored-value change";
-    case 0x12: return "ticket";
+    case RINGLOG_TAP: return "tap";
+    case RINGLOG_CHANGE: return "stored-value change";
+    case RINGLOG_TICKET: return "ticket";
     default: return "of a kind that this app does not know";
     }
 }
@@ -209,9 +205,10 @@ static const char *kind_name(uint8_t kind)
    many. The check needs no log: count, index, item, proof and root are all that it is lent. */
 static bool prove(struct log *copy, const struct log *ring, size_t index)
 {
-    uint8_t proof[LONGEST_PROOF];
-    uint8_t item[LONGEST_ITEM];
-    struct ringlog_count end = ringlog_cut(copy->bytes, LONGEST_LOG, copy->used, ring->entries);
+    uint8_t proof[RINGLOG_LONGEST_PROOF];
+    uint8_t item[RINGLOG_LONGEST_ITEM];
+    struct ringlog_count end =
+        ringlog_cut(copy->bytes, RINGLOG_LONGEST_LOG, copy->used, ring->entries);
     struct ringlog_part value;
     struct ringlog_count made;
     bool accepted, forged;
@@ -219,7 +216,7 @@ static bool prove(struct log *copy, const struct log *ring, size_t index)
     if (!answered("cut", end.number)) {
         return false;
     }
-    value = ringlog_value(copy->bytes, (size_t)end.value, ring->root, DIGEST, index);
+    value = ringlog_value(copy->bytes, (size_t)end.value, ring->root, RINGLOG_DIGEST, index);
     if (!answered("value", value.number)) {
         return false;
     }
@@ -229,12 +226,12 @@ static bool prove(struct log *copy, const struct log *ring, size_t index)
     }
     memcpy(item, copy->bytes + value.offset, (size_t)value.length);
     accepted = ringlog_check_proof(ring->entries, index, item, (size_t)value.length, proof,
-                                   (size_t)made.value, ring->root, DIGEST);
+                                   (size_t)made.value, ring->root, RINGLOG_DIGEST);
     printf("proof: value %zu, %s, bytes %" PRIu64 ": %s\n", index, kind_name(item[0]), made.value,
            accepted ? "yes" : "no");
     item[value.length - 1] ^= 1;
     forged = ringlog_check_proof(ring->entries, index, item, (size_t)value.length, proof,
-                                 (size_t)made.value, ring->root, DIGEST);
+                                 (size_t)made.value, ring->root, RINGLOG_DIGEST);
     printf("tampered: %s\n", forged ? "yes" : "no");
     return accepted && !forged;
 }

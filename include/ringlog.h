@@ -303,7 +303,8 @@ struct ringlog_digest ringlog_root(const uint8_t *log, size_t log_len);
  *   6  the log does not open;
  *   2  index is 0 or above n;
  *   6, 7  a link on the way does not hold, from the top down, in one link 6 before 7;
- *   7  the fold does not give the root, as with the root of fewer or more values.
+ *   7  the fold does not give the root, as with the root of fewer or more values (where the root is
+ *      that of the log's first values, cut to so many, and ask in what is left).
  *
  * Example, value 2 against a root that was kept in a safe place:
  *
@@ -432,6 +433,10 @@ struct ringlog_split ringlog_search(const uint8_t *first, size_t first_len,
  * donor's entry `place` begins if the logs differ, else where its entry n ends, and at 0 if n is 0.
  * For two well-formed logs whose search agrees with the comparison value by value, the other log
  * cut to the common count, and then the piece, are the donor byte for byte.
+ *
+ * Which of two logs that differ is right is not decided here: the longer one is the donor, and of
+ * equally long ones the one that is lent first. Compare roots with one that you trust before you
+ * give up values.
  *
  * A piece may be empty: equal logs give donor 1, offset first_len and length 0. Where
  * ringlog_search is refused there is no donor, and all three are 0; ask it for the number and the
