@@ -6,7 +6,7 @@ ghost use Rattle.io.specs.Digits.{glyph};
 ghost use Rattle.hex.specs.Hex.{hexOf};
 
 // Each byte gives two digits, the high one first.
-pub fn of_digest(digest: [u8; 32]) -> [u8; 64]
+fn of_digest(digest: [u8; 32]) -> [u8; 64]
     ensures { λ r. ⌜ r ≡ hexOf digest ⌝ }
 {
     let mut text = [0u8; 64];

@@ -1,4 +1,4 @@
-// The digest of a tag byte and up to two short parts, for the crates above: of a leaf 0x00 and its
+// The digest of a tag byte and two short parts, for the crates above: of a leaf 0x00 and its
 // item, of a node its height and two digests.
 ghost use mathlib.Core.List.{_∷_, _++_};
 ghost use mathlib.Core.Path.{_≡_};

@@ -13,7 +13,7 @@ pub fn add(x: u32, y: u32) -> u32
     std::num::wrapping_add_u32(x, y)
 }
 
-pub fn rotr(x: u32, n: u32) -> u32
+fn rotr(x: u32, n: u32) -> u32
     requires { ⌜ (0 < n) × (n < 32) ⌝ }
     ensures { λ r. ⌜ r ≡ fips.rotr n x ⌝ }
 {

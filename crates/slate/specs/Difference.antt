@@ -1,4 +1,4 @@
--- Where the digests of two trees lead: the leaf under which document 01's search finds a difference.
+-- Where the digests of two trees lead: the leaf at which document 01's search finds a difference.
 use mathlib.Core.List.{List}
 use Prim.Native.Nat.{ℕ, zero, suc}
 use Rattle.sha256.specs.Pick.{pick}

@@ -8,8 +8,10 @@ use borrow.Author.Tests.{le-ltb, lt-ltb}
 use lib.Dec.{ltb}
 use lib.ListN.{length, drop, take, length-drop}
 use lib.Seq.{take-all}
+use Rattle.slate.specs.Bytes.{part}
 use Rattle.slate.specs.Comparison as comparison
 use Rattle.split.specs.Answer.{found, splitOf, verdictOf}
+use Rattle.split.specs.Claims as claims
 use Rattle.split.specs.Located.{locatedOf, toVerdict}
 use Rattle.split.specs.Repair.{pieceOf, placeOf, rest}
 use Rattle.split.specs.Search.{Search, answered, refused, searched}
@@ -59,26 +61,36 @@ rest-all o b = take-all (length b - o) (drop o b) (omega (arith, length-drop o b
 
 -- p lies in the second log, in the first, or nowhere
 by-place {ℓ} : {P : Type ℓ} (b c : List ℕ) (p : Piece) → p ≡ placeOf b c (searched b c)
-    → (p .donor ≡ 2 → p .offset ≤ length c → drop (p .offset) c ≡ pieceOf b c (searched b c) → P)
-    → (p .donor ≡ 1 → p .offset ≤ length b → drop (p .offset) b ≡ pieceOf b c (searched b c) → P)
+    → (p .donor ≡ 2 → p .offset ≤ length c → p .length ≡ length c - p .offset → drop (p .offset) c ≡ pieceOf b c (searched b c) → P)
+    → (p .donor ≡ 1 → p .offset ≤ length b → p .length ≡ length b - p .offset → drop (p .offset) b ≡ pieceOf b c (searched b c) → P)
     → (p .donor ≡ 0 → [] ≡ pieceOf b c (searched b c) → P) → P
 by-place {P = P} b c p e second first none = go (searched b c) refl e
   where
     go : (x : Search) → searched b c ≡ x → p ≡ placeOf b c x → P
     go (answered f r s) run h =
         by-bool (ltb (r .count) (s .count))
-        (λ t. let q : p ≡ rest 2 c (s .at) = rw t at h in rw (q, run, t) at second refl (ends-inside b c f r s run .1) refl)
-        (λ t. let q : p ≡ rest 1 b (r .at) = rw t at h in rw (q, run, t) at first refl (ends-inside b c f r s run .0) refl)
+        (λ t. let q : p ≡ rest 2 c (s .at) = rw t at h in rw (q, run, t) at second refl (ends-inside b c f r s run .1) refl refl)
+        (λ t. let q : p ≡ rest 1 b (r .at) = rw t at h in rw (q, run, t) at first refl (ends-inside b c f r s run .0) refl refl)
     go (refused z k) run h = rw (h, run) at none refl refl
 
 module _ (b c : List ℕ) (p : Piece) (e : p ≡ placeOf b c (searched b c)) where
   pub of-second : p .donor ≡ 2
       → (p .offset ≤ length c) × (take (length c - p .offset) (drop (p .offset) c) ≡ pieceOf b c (searched b c))
-  of-second h = by-place b c p e (λ d le q. (le, rest-all (p .offset) c ∙ q)) (λ d le q. absurd (omega arith)) (λ d q. absurd (omega arith))
+  of-second h =
+      by-place b c p e (λ d le n q. (le, rest-all (p .offset) c ∙ q)) (λ d le n q. absurd (omega arith)) (λ d q. absurd (omega arith))
 
   pub of-first : p .donor ≡ 1
       → (p .offset ≤ length b) × (take (length b - p .offset) (drop (p .offset) b) ≡ pieceOf b c (searched b c))
-  of-first h = by-place b c p e (λ d le q. absurd (omega arith)) (λ d le q. (le, rest-all (p .offset) b ∙ q)) (λ d q. absurd (omega arith))
+  of-first h =
+      by-place b c p e (λ d le n q. absurd (omega arith)) (λ d le n q. (le, rest-all (p .offset) b ∙ q)) (λ d q. absurd (omega arith))
 
   pub in-neither : (p .donor ≡ 2 → ⊥) → (p .donor ≡ 1 → ⊥) → [] ≡ pieceOf b c (searched b c)
-  in-neither f g = by-place b c p e (λ d le q. absurd (f d)) (λ d le q. absurd (g d)) (λ d q. q)
+  in-neither f g = by-place b c p e (λ d le n q. absurd (f d)) (λ d le n q. absurd (g d)) (λ d q. q)
+
+pub piece-placed : claims.PiecePlaced
+unfolding part
+piece-placed b c p e =
+    by-place b c p e
+    (λ d le n q. (λ h. absurd (omega arith), λ h. rw n (rest-all (p .offset) c ∙ q), λ h. absurd (omega arith)))
+    (λ d le n q. (λ h. rw n (rest-all (p .offset) b ∙ q), λ h. absurd (omega arith), λ h. absurd (omega arith)))
+    (λ d q. (λ h. absurd (omega arith), λ h. absurd (omega arith), λ h. q))

@@ -5,6 +5,7 @@ use mathlib.Core.Logic.{_⊎_}
 use mathlib.Core.Path.{_≡_}
 use Prim.Native.Nat.{ℕ, _-_, _≤_, min}
 use lib.ListN.{length, getD, take}
+use Rattle.slate.specs.Bytes.{part}
 use Rattle.slate.specs.Clash.{Clash}
 use Rattle.slate.specs.Comparison.{Compared, compared, differAt}
 use Rattle.slate.specs.Tree.{slate}
@@ -17,8 +18,9 @@ use Rattle.ringlog.specs.Answer.{counted}
 use Rattle.ringlog.specs.Cut.{cutTo}
 use Rattle.split.specs.Answer.{answerOf}
 use Rattle.split.specs.Reads.{readsFormula}
-use Rattle.split.specs.Repair.{donor, pieceOf}
+use Rattle.split.specs.Repair.{donor, pieceOf, placeOf, receiver}
 use Rattle.split.specs.Search.{Trace, answered, refused, searched}
+use Rattle.split.specs.declared.Piece.{Piece}
 use Rattle.split.specs.declared.SearchAnswer.{SearchAnswer}
 use Rattle.split.specs.declared.Side.{Side}
 
@@ -48,7 +50,7 @@ NamedDiffers =
 abbrev pub RepairHeals : Type 0
 RepairHeals =
     (vs ws : List (List ℕ)) (a d : Trace) → Values vs → Values ws → searched (log vs) (log ws) ≡ answered (compared vs ws) a d
-    → (other : List ℕ) → other ≡ donor (length vs) (length ws) (log ws) (log vs)
+    → (other : List ℕ) → other ≡ receiver (length vs) (length ws) (log vs) (log ws)
     → (end : ℕ) × (cutTo other (length other) (compared vs ws .common) ≡ counted end)
     × (take end other ++ pieceOf (log vs) (log ws) (searched (log vs) (log ws)) ≡ donor (length vs) (length ws) (log vs) (log ws))
 
@@ -72,6 +74,14 @@ abbrev pub UnreadFree : Type 0
 UnreadFree =
     (b c b′ c′ : List ℕ) (f : Compared) (a d : Trace) → length b ≡ length b′ → length c ≡ length c′
     → searched b c ≡ answered f a d → Kept b b′ (a .reads) → Kept c c′ (d .reads) → searched b′ c′ ≡ answered f a d
+
+-- the piece lies where `placeOf` says: in the first log, in the second, or nowhere
+abbrev pub PiecePlaced : Type 0
+PiecePlaced =
+    (b c : List ℕ) (p : Piece) → p ≡ placeOf b c (searched b c)
+    → (p .donor ≡ 1 → part b (p .offset) (p .length) ≡ pieceOf b c (searched b c))
+    × (p .donor ≡ 2 → part c (p .offset) (p .length) ≡ pieceOf b c (searched b c))
+    × (p .donor ≡ 0 → [] ≡ pieceOf b c (searched b c))
 
 -- the piece is empty if the search refuses
 abbrev pub RepairRefused : Type 0

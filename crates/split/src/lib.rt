@@ -1,8 +1,8 @@
 // Search and repair: where two logs split, in a proved number of reads, and the piece of one that
 // heals the other.
 //
-// Both calls are defined for any bytes. specs/Search.antt and specs/Repair.antt say what they
-// answer, specs/Claims.antt what that is on well-formed logs and what an answer is worth on any
+// Every call is defined for any bytes. specs/Search.antt and specs/Repair.antt say what it answers,
+// specs/Claims.antt what that is on well-formed logs and what an answer is worth on any
 // bytes.
 ghost use mathlib.Core.Path.{_≡_};
 ghost use Rattle.split.specs.Answer.{differencePlace, sideNumber, verdictNumber, verdictOf};

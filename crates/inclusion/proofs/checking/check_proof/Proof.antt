@@ -64,7 +64,7 @@ unfolding proofTests
 returns-5 c = sym (not-holds _ _ _ _ _ 4 (ne-eqb _ _ (c .if5 .taken)))
 
 leaf-digest-requires : tie.Need-leaf-digest-requires
-leaf-digest-requires c κs = let s = item-size _ (item (c .before .before .before)) in (s .0, omega arith)
+leaf-digest-requires c κs = let s = item-size _ (item (c .before .before .before)) in (omega arith, omega arith)
 
 fold-requires : tie.Need-fold-requires
 fold-requires c κs =
