@@ -13,7 +13,7 @@ pub mod model {
     mod log;
     pub mod reads;
     pub mod search;
-    mod sha256;
+    pub mod sha256;
     pub mod tree;
     pub mod walk;
     pub use calls::{append, cut, proof, root, value};

@@ -1,11 +1,24 @@
-//! The plain Rust that the benchmark measures against the model: append and audit that make each
-//! entry from the strata before it, and the search.
+//! The plain Rust that the benchmark measures against the model: SHA-256, append and audit that make
+//! each entry from the strata before it, and the search.
 
 use ringlog_tests::logs::{self, LONGEST_ENTRY, LONGEST_LOG, MASKS};
 use ringlog_tests::model::Log;
 use ringlog_tests::pairs::{self, parted_at, values, with_others};
 use ringlog_tests::random::Random;
 use ringlog_tests::{links, model, plain, refused};
+
+#[test]
+fn digests_agree() {
+    let message = Random::new(12).bytes(65_535);
+    for len in (0..=300).chain([4_096, 65_472, 65_534, 65_535]) {
+        let message = &message[..len];
+        assert_eq!(
+            plain::sha256(message),
+            model::sha256(message),
+            "{len} bytes"
+        );
+    }
+}
 
 fn assert_audits_agree(bytes: &[u8], case: impl Fn() -> String) {
     assert_eq!(plain::audit(bytes), model::audit(bytes), "{}", case());

@@ -6,7 +6,7 @@
 
 use ringlog_tests::model::Log;
 use ringlog_tests::random::Random;
-use ringlog_tests::{logs, model, plain, processor, ringlog};
+use ringlog_tests::{logs, plain, processor, ringlog};
 use std::fmt::Debug;
 
 const ROUNDS: usize = 1_500;
@@ -76,7 +76,7 @@ impl Row {
             &format!("sha256 of {len} bytes"),
             (calls, 1),
             move || ringlog::sha256(black_box(&message)),
-            move || Ok(model::sha256(black_box(&again))).into(),
+            move || Ok(plain::sha256(black_box(&again))).into(),
         )
     }
 

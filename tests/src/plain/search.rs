@@ -1,7 +1,7 @@
 //! The search for the split of two logs in plain Rust. Every entry that it reads is tested for its
 //! shape, and every link for its digest.
 
-use super::{digest_place, entry_len, nodes_are_shaped, open, u32_at, value_len, MOST};
+use super::{digest_at, digest_place, entry_len, nodes_are_shaped, open, u32_at, value_len, MOST};
 use crate::ringlog::Split;
 
 /// A log that is searched, and the entry that was reached in it.
@@ -49,14 +49,12 @@ impl<'a> Reached<'a> {
         self.start + digest_place(self.item_len, nodes)
     }
 
-    fn digest(&self, h: u32) -> &'a [u8] {
-        let at = self.place(h);
-        &self.log[at..at + 32]
+    fn digest(&self, h: u32) -> &'a [u8; 32] {
+        digest_at(self.log, self.place(h))
     }
 
-    fn left_digest(&self, h: u32) -> &'a [u8] {
-        let at = self.place(h) - 32;
-        &self.log[at..at + 32]
+    fn left_digest(&self, h: u32) -> &'a [u8; 32] {
+        digest_at(self.log, self.place(h) - 32)
     }
 
     fn left_index(&self, h: u32) -> usize {
