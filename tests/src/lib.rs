@@ -1,7 +1,7 @@
 //! What the tests and the benchmark stand on: the model that the library is held to, the library
 //! behind safe wrappers, the plain Rust that it is measured beside, values and logs to try, forged
-//! logs and their links, pairs of logs and what a search answers of them, what is refused,
-//! repeatable random bytes, very long messages, and a clock.
+//! logs and their links, pairs of logs and what a search answers of them, what is refused, random
+//! cases of all calls, repeatable random bytes, very long messages, and a clock.
 
 /// Document 01 in plain Rust, made to be seen right and not to be fast.
 pub mod model {
@@ -22,6 +22,27 @@ pub mod model {
     pub use log::{audit, Log};
     pub use search::{repair, search};
     pub use sha256::sha256;
+}
+
+/// Random calls of the library, what must come of them, and what does.
+pub mod cases {
+    mod answer;
+    mod call;
+    mod claim;
+    mod file;
+    mod lent;
+    mod log;
+    mod make;
+    mod met;
+    mod outcome;
+    mod pair;
+    mod run;
+    pub use answer::{Answer, Done};
+    pub use call::{Call, Case};
+    pub use file::write;
+    pub use met::Met;
+    pub use outcome::{outcomes, Outcome};
+    pub use run::{run, Difference};
 }
 
 pub mod forged;

@@ -9,6 +9,12 @@ impl Random {
         Random { state: seed }
     }
 
+    /// The numbers of one case of a seed. They rest on the seed and the case's number alone.
+    pub fn of_case(seed: u64, number: u64) -> Self {
+        let start = Random::new(seed).word().wrapping_add(number);
+        Random::new(Random::new(start).word())
+    }
+
     pub fn word(&mut self) -> u64 {
         self.state = self.state.wrapping_add(0x9e3779b97f4a7c15);
         let mut z = self.state;
@@ -21,6 +27,11 @@ impl Random {
     /// that is nothing next to 2^64.
     pub fn up_to(&mut self, most: usize) -> usize {
         (self.word() % (most as u64 + 1)) as usize
+    }
+
+    /// One of these, of which there is at least one.
+    pub fn one_of<'a, T>(&mut self, list: &'a [T]) -> &'a T {
+        &list[self.up_to(list.len() - 1)]
     }
 
     pub fn fill(&mut self, bytes: &mut [u8]) {

@@ -21,9 +21,13 @@ pub const FAR_ABOVE: [usize; 7] = [
 
 /// Bytes that do not open.
 pub fn not_opening(random: &mut Random) -> Vec<Named> {
+    [torn(random), misshapen(random)].concat()
+}
+
+/// Bytes that do not open though they are not torn.
+pub fn misshapen(random: &mut Random) -> Vec<Named> {
     let lists = [
         too_short(random),
-        torn(random),
         wrong_lengths(random),
         misplaced(random),
         wrong_left_offsets(random),

@@ -1,0 +1,150 @@
+//! What comes of a case, by the library and by the model: the answer, and every lent byte
+//! afterwards.
+
+use super::{Call, Case};
+use crate::ringlog::{Count, Digest, Extent, Part, Piece, Split};
+use crate::{model, ringlog};
+
+/// The longest message that is hashed.
+const LONGEST_MESSAGE: usize = 65_535;
+
+#[derive(Clone, Copy, Debug, PartialEq, Eq)]
+pub enum Answer {
+    Digest(Digest),
+    Count(Count),
+    Extent(Extent),
+    Part(Part),
+    Whether(bool),
+    Split(Split),
+    Piece(Piece),
+}
+
+impl Answer {
+    /// The number of a refusal; 0 where the call answers, and for the calls that refuse nothing.
+    pub fn number(&self) -> u32 {
+        match self {
+            Answer::Digest(digest) => digest.number,
+            Answer::Count(count) => count.number,
+            Answer::Part(part) => part.number,
+            Answer::Split(split) => split.number,
+            Answer::Extent(_) | Answer::Whether(_) | Answer::Piece(_) => 0,
+        }
+    }
+
+    /// The fields of the header's struct in their order, a digest byte by byte.
+    pub fn fields(&self) -> Vec<u64> {
+        match *self {
+            Answer::Digest(Digest { number, digest }) => {
+                let mut fields = vec![number.into()];
+                fields.extend(digest.map(u64::from));
+                fields
+            }
+            Answer::Count(count) => vec![count.number.into(), count.value],
+            Answer::Extent(extent) => vec![extent.entries, extent.bytes],
+            Answer::Part(part) => vec![part.number.into(), part.offset, part.length],
+            Answer::Whether(yes) => vec![yes.into()],
+            Answer::Split(split) => vec![
+                split.number.into(),
+                split.side.into(),
+                split.common,
+                split.verdict.into(),
+                split.place,
+                split.first_reads,
+                split.second_reads,
+            ],
+            Answer::Piece(piece) => vec![piece.donor.into(), piece.offset, piece.length],
+        }
+    }
+}
+
+/// How many bytes stand before each lent slice, and behind it.
+const AROUND: usize = 64;
+
+/// An answer, and the memory of each lent slice afterwards, with the bytes around the slice.
+#[derive(Debug, PartialEq, Eq)]
+pub struct Done {
+    pub answer: Answer,
+    memory: Vec<Vec<u8>>,
+}
+
+impl Done {
+    /// What the model makes of the case.
+    pub fn by_model(case: &Case) -> Done {
+        Done::by(case, by_model)
+    }
+
+    /// What the library makes of the case.
+    pub fn by_library(case: &Case) -> Done {
+        Done::by(case, by_library)
+    }
+
+    fn by(case: &Case, act: fn(Call, &mut [&mut [u8]], &[usize]) -> Answer) -> Done {
+        let around = [0x5a; AROUND];
+        let surrounded = |bytes: &Vec<u8>| [&around, &bytes[..], &around].concat();
+        let mut memory: Vec<_> = case.lent.iter().map(surrounded).collect();
+        let mut lent: Vec<_> = memory
+            .iter_mut()
+            .zip(&case.lent)
+            .map(|(memory, bytes)| &mut memory[AROUND..AROUND + bytes.len()])
+            .collect();
+        let answer = act(case.call, &mut lent, &case.numbers);
+        Done { answer, memory }
+    }
+
+    /// The lent slices afterwards.
+    pub fn lent(&self) -> impl Iterator<Item = &[u8]> {
+        let memory = self.memory.iter();
+        memory.map(|memory| &memory[AROUND..memory.len() - AROUND])
+    }
+
+    /// The first byte that is another one than expected: the number of its slice, from 0, and its
+    /// place there, which is below 0 for a byte before the slice.
+    pub fn other_byte(&self, expected: &Done) -> Option<(usize, isize)> {
+        let pairs = self.memory.iter().zip(&expected.memory);
+        pairs.enumerate().find_map(|(slice, (got, expected))| {
+            let at = (0..got.len()).find(|&at| got[at] != expected[at])?;
+            Some((slice, at as isize - AROUND as isize))
+        })
+    }
+}
+
+fn by_library(call: Call, lent: &mut [&mut [u8]], numbers: &[usize]) -> Answer {
+    use ringlog::*;
+    match (call, lent, numbers) {
+        (Call::Sha256, [message], []) => Answer::Digest(sha256(message)),
+        (Call::Append, [buffer, item], [used]) => Answer::Count(append(buffer, *used, item)),
+        (Call::Audit, [bytes], []) => Answer::Extent(audit(bytes)),
+        (Call::Root, [log], []) => Answer::Digest(root(log)),
+        (Call::Value, [log, root], [index]) => Answer::Part(value(log, root, *index)),
+        (Call::Proof, [log, output], [index]) => Answer::Count(proof(log, *index, output)),
+        (Call::CheckProof, [item, proof, root], [count, index]) => {
+            Answer::Whether(check_proof(*count, *index, item, proof, root))
+        }
+        (Call::Cut, [buffer], [used, count]) => Answer::Count(cut(buffer, *used, *count)),
+        (Call::Search, [first, second], []) => Answer::Split(search(first, second)),
+        (Call::Repair, [first, second], []) => Answer::Piece(repair(first, second)),
+        _ => panic!("{call:?} is lent something else"),
+    }
+}
+
+fn by_model(call: Call, lent: &mut [&mut [u8]], numbers: &[usize]) -> Answer {
+    use model::*;
+    match (call, lent, numbers) {
+        (Call::Sha256, [message], []) => {
+            let fits = message.len() <= LONGEST_MESSAGE;
+            Answer::Digest(fits.then(|| sha256(message)).ok_or(1).into())
+        }
+        (Call::Append, [buffer, item], [used]) => Answer::Count(append(buffer, *used, item).into()),
+        (Call::Audit, [bytes], []) => Answer::Extent(audit(bytes).into()),
+        (Call::Root, [log], []) => Answer::Digest(root(log).into()),
+        (Call::Value, [log, root], [index]) => Answer::Part(value(log, root, *index).into()),
+        (Call::Proof, [log, output], [index]) => Answer::Count(proof(log, *index, output).into()),
+        (Call::CheckProof, [item, proof, root], [count, index]) => {
+            Answer::Whether(check_proof(*count, *index, item, proof, root))
+        }
+        (Call::Cut, [buffer], [used, count]) => Answer::Count(cut(buffer, *used, *count).into()),
+        (Call::Search, [first, second], []) => Answer::Split(search(first, second).into()),
+        (Call::Repair, [first, second], []) => Answer::Piece(repair(first, second).into()),
+        _ => panic!("{call:?} is lent something else"),
+    }
+}

@@ -1,0 +1,90 @@
+//! A case: one call of the C interface with all the bytes and numbers that it is lent.
+
+use std::fmt::{self, Display, Formatter};
+
+/// The calls, in the order of include/ringlog.h.
+#[derive(Clone, Copy, Debug, PartialEq, Eq, Hash)]
+pub enum Call {
+    Sha256,
+    Append,
+    Audit,
+    Root,
+    Value,
+    Proof,
+    CheckProof,
+    Cut,
+    Search,
+    Repair,
+}
+
+impl Call {
+    pub const ALL: [Call; 10] = [
+        Call::Sha256,
+        Call::Append,
+        Call::Audit,
+        Call::Root,
+        Call::Value,
+        Call::Proof,
+        Call::CheckProof,
+        Call::Cut,
+        Call::Search,
+        Call::Repair,
+    ];
+
+    pub fn name(self) -> &'static str {
+        self.signature().0
+    }
+
+    /// The name behind `ringlog_`, and the names of the slices and of the numbers, each in the
+    /// header's order. A slice's length is not among the numbers.
+    fn signature(
+        self,
+    ) -> (
+        &'static str,
+        &'static [&'static str],
+        &'static [&'static str],
+    ) {
+        match self {
+            Call::Sha256 => ("sha256", &["message"], &[]),
+            Call::Append => ("append", &["buffer", "item"], &["used"]),
+            Call::Audit => ("audit", &["bytes"], &[]),
+            Call::Root => ("root", &["log"], &[]),
+            Call::Value => ("value", &["log", "root"], &["index"]),
+            Call::Proof => ("proof", &["log", "output"], &["index"]),
+            Call::CheckProof => (
+                "check_proof",
+                &["item", "proof", "root"],
+                &["count", "index"],
+            ),
+            Call::Cut => ("cut", &["buffer"], &["used", "count"]),
+            Call::Search => ("search", &["first", "second"], &[]),
+            Call::Repair => ("repair", &["first", "second"], &[]),
+        }
+    }
+}
+
+/// A call with the slices that it is lent and its numbers, each in the header's order.
+pub struct Case {
+    pub call: Call,
+    pub lent: Vec<Vec<u8>>,
+    pub numbers: Vec<usize>,
+}
+
+/// The case in full, its bytes in hex.
+impl Display for Case {
+    fn fmt(&self, f: &mut Formatter) -> fmt::Result {
+        let (name, slices, numbers) = self.call.signature();
+        writeln!(f, "ringlog_{name}")?;
+        for (name, number) in numbers.iter().zip(&self.numbers) {
+            writeln!(f, "  {name}: {number}")?;
+        }
+        for (name, bytes) in slices.iter().zip(&self.lent) {
+            writeln!(f, "  {name}: {} bytes {}", bytes.len(), hex(bytes))?;
+        }
+        Ok(())
+    }
+}
+
+fn hex(bytes: &[u8]) -> String {
+    bytes.iter().map(|byte| format!("{byte:02x}")).collect()
+}

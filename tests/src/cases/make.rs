@@ -1,0 +1,104 @@
+//! The generator: the case of each number of a seed.
+
+use super::claim::Claim;
+use super::lent::{buffer, item, length_near, near, root};
+use super::{log, pair, Call, Case};
+use crate::model::entry::MOST;
+use crate::model::inclusion::hops;
+use crate::random::Random;
+use crate::splits::count;
+use crate::{forged, logs};
+
+impl Case {
+    /// The case of this number of a seed. It rests on the two alone.
+    pub fn of(seed: u64, number: u64) -> Case {
+        let random = &mut Random::of_case(seed, number);
+        let call = *random.one_of(&Call::ALL);
+        let (lent, numbers) = match call {
+            Call::Sha256 => (vec![message(random)], vec![]),
+            Call::Append => append(random),
+            Call::Audit => (vec![audited(random)], vec![]),
+            Call::Root => (vec![log::any(random)], vec![]),
+            Call::Value => value(random),
+            Call::Proof => proof(random),
+            Call::CheckProof => check_proof(random),
+            Call::Cut => cut(random),
+            Call::Search | Call::Repair => {
+                let (first, second) = pair::any(random);
+                (vec![first, second], vec![])
+            }
+        };
+        Case {
+            call,
+            lent,
+            numbers,
+        }
+    }
+}
+
+/// The slices and the numbers that a call is lent.
+type Lent = (Vec<Vec<u8>>, Vec<usize>);
+
+/// A message: of up to some blocks, often with an end near that of a block, or about as long as the
+/// longest that is hashed.
+fn message(random: &mut Random) -> Vec<u8> {
+    let len = match random.up_to(15) {
+        0 => random.up_to(70_000),
+        1 => 65_534 + random.up_to(3),
+        2 => (1 << 16) + random.up_to(1 << 16),
+        3..=9 => 64 * random.up_to(5) + 54 + random.up_to(12),
+        _ => random.up_to(600),
+    };
+    random.bytes(len)
+}
+
+fn append(random: &mut Random) -> Lent {
+    let log = match random.up_to(15) {
+        0 | 1 => log::full(random),
+        _ => log::any(random),
+    };
+    let item = item(random);
+    let need = 43 + item.len() + 70 * count(&log).count_ones() as usize;
+    let room = length_near(need, random);
+    let (buffer, used) = buffer(log, room, random);
+    (vec![buffer, item], vec![used])
+}
+
+/// Bytes to audit: a log, rarely one of one value more than a log can have.
+fn audited(random: &mut Random) -> Vec<u8> {
+    match random.up_to(399) {
+        0 => logs::taps(MOST + 1, random).bytes().to_vec(),
+        _ => log::any(random),
+    }
+}
+
+fn value(random: &mut Random) -> Lent {
+    let log = log::any(random);
+    let i = forged::index(&log, random);
+    let root = root(&log, i, random);
+    (vec![log, root], vec![near(i, random)])
+}
+
+fn proof(random: &mut Random) -> Lent {
+    let log = log::any(random);
+    let i = near(forged::index(&log, random), random);
+    let n = count(&log);
+    let hops = if (1..=n).contains(&i) { hops(n, i) } else { 1 };
+    let len = length_near(32 * hops, random);
+    let output = random.bytes(len);
+    (vec![log, output], vec![i])
+}
+
+fn check_proof(random: &mut Random) -> Lent {
+    let claim = Claim::any(random);
+    let lent = vec![claim.item, claim.proof, claim.root];
+    (lent, vec![claim.n, claim.i])
+}
+
+fn cut(random: &mut Random) -> Lent {
+    let log = log::any(random);
+    let d = near(forged::index(&log, random), random);
+    let room = random.up_to(1) * random.up_to(100);
+    let (buffer, used) = buffer(log, room, random);
+    (vec![buffer], vec![used, d])
+}
