@@ -135,8 +135,7 @@ def main():
     check_public_calls("docs/DEMANDS.md")
     for row in tables("docs/DEFINITIONS.md"):
         check_definitions("docs/DEFINITIONS.md", row[-1])
-    print("\n".join(problems))
-    sys.exit(1 if problems else 0)
+    sys.exit("\n".join(problems) or 0)
 
 
 main()
