@@ -1,9 +1,10 @@
 -- The comparison value by value, from where two lists of values are the same, and the values that it finds in common.
 -- Assumes nothing.
 use mathlib.Core.List.{List, []}
-use mathlib.Core.Path.{_≡_, sym, _∙_}
+use mathlib.Core.Path.{_≡_, refl, sym, _∙_}
 use Prim.Native.Nat.{ℕ, zero, suc, _+_, _≤_, _<_, min}
 use native.Mathlib.Omega.{arith}
+use borrow.Author.Tests.{eq-eqb, le-ltb, lt-ltb, ne-eqb}
 use lib.ListN.{length, getD, take}
 use lib.Seq.{ext-getD, getD-take, length-take-le}
 use Rattle.slate.specs.Claims as claims
@@ -40,11 +41,22 @@ unfolding compared
 compared-differ vs ws k a b s n = from-differ vs ws (min (length vs) (length ws)) 0 k (omega arith) (omega arith) s n
 
 -- the values of the shorter list are the first of the other
-pub compared-equal : claims.ComparedEqual
+pub compared-whole : (vs ws : List (List ℕ)) → Same 0 (min (length vs) (length ws)) vs ws
+    → compared vs ws ≡ record { common = min (length vs) (length ws); verdict = byLength (length vs) (length ws) }
 unfolding compared
-compared-equal vs ws s =
+compared-whole vs ws s =
     let e : 0 + min (length vs) (length ws) ≡ min (length vs) (length ws) = omega arith in
     rw e at (from-equal vs ws (min (length vs) (length ws)) 0 (λ i c d. s i c (omega arith)))
+
+pub compared-equal : claims.ComparedEqual
+unfolding byLength
+compared-equal vs ws s =
+    rw (compared-whole vs ws s) (
+      refl,
+      λ e. rw (eq-eqb (length vs) (length ws) e),
+      λ l. rw (ne-eqb (length vs) (length ws) (omega arith), lt-ltb (length vs) (length ws) l),
+      λ l. rw (ne-eqb (length vs) (length ws) (omega arith), le-ltb (length vs) (length ws) (omega arith)),
+    )
 
 -- ---- the values in common: both lists begin with them
 

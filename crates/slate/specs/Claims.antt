@@ -7,7 +7,7 @@ use lib.Count.{ones}
 use lib.ListN.{length, getD}
 use Rattle.slate.specs.Address.{HasNode, Node, Present, digestOf, firstLeaf, hashInput, highest, leavesFrom, leftChild, nodes, rightHeight}
 use Rattle.slate.specs.Clash.{Clash, Same}
-use Rattle.slate.specs.Comparison.{byLength, compared, differAt}
+use Rattle.slate.specs.Comparison.{compared, differAt, equal, firstShorter, secondShorter}
 use Rattle.slate.specs.Difference.{differingLeaf}
 use Rattle.slate.specs.Digits.{base, digit, maxHeight, onesBelow}
 use Rattle.slate.specs.Length.{entryLen}
@@ -143,4 +143,7 @@ ComparedDiffer =
 abbrev pub ComparedEqual : Type 0
 ComparedEqual =
     (vs ws : List (List ℕ)) → Same 0 (min (length vs) (length ws)) vs ws
-    → compared vs ws ≡ record { common = min (length vs) (length ws); verdict = byLength (length vs) (length ws) }
+    → (compared vs ws .common ≡ min (length vs) (length ws))
+    × (length vs ≡ length ws → compared vs ws .verdict ≡ equal)
+    × (length vs < length ws → compared vs ws .verdict ≡ firstShorter)
+    × (length ws < length vs → compared vs ws .verdict ≡ secondShorter)

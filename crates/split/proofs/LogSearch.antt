@@ -19,7 +19,7 @@ use Rattle.split.specs.Search.{Trace, answered, searched}
 use Rattle.slate.proofs.Bits.{whole-base}
 use Rattle.slate.proofs.Cases.{by-equal}
 use Rattle.slate.proofs.Clashes.{tops-values}
-use Rattle.slate.proofs.Comparisons.{compared-differ, compared-equal}
+use Rattle.slate.proofs.Comparisons.{compared-differ, compared-whole}
 use Rattle.slate.proofs.Differences.{leaf-differs, leaf-first, leaf-under}
 use Rattle.entry.proofs.Claimed.{opening-counts}
 use Rattle.entry.proofs.LogDescent.{descend-log, walked}
@@ -56,7 +56,7 @@ module _ (vs ws : List (List ℕ)) where
   ended-sound : (n : ℕ) → min (length vs) (length ws) ≡ n → Same 0 n vs ws ⊎ Clash slate vs ws → Sound (ended n (length vs) (length ws))
   ended-sound n e s =
       record {
-        agrees = ⊎-elim (λ s. inl (sym (rw e at (compared-equal vs ws (rw e s))))) inr s;
+        agrees = ⊎-elim (λ s. inl (sym (rw e at (compared-whole vs ws (rw e s))))) inr s;
         named = λ i h.
             let z = by-lengths (λ v. v ≡ differAt i → _≡_ {A = ℕ} 0 1) (length vs) (length ws) (λ g. cc) (λ g. cc) (λ g. cc) h in
             absurd (omega arith);

@@ -3,7 +3,7 @@
 use mathlib.Core.List.{List, [], _++_}
 use mathlib.Core.Logic.{_⊎_}
 use mathlib.Core.Path.{_≡_}
-use Prim.Native.Nat.{ℕ, _-_, _≤_, min}
+use Prim.Native.Nat.{ℕ, _-_, _≤_, _<_, min}
 use lib.ListN.{length, getD, take}
 use Rattle.slate.specs.Bytes.{part}
 use Rattle.slate.specs.Clash.{Clash}
@@ -18,7 +18,7 @@ use Rattle.ringlog.specs.Answer.{counted}
 use Rattle.ringlog.specs.Cut.{cutTo}
 use Rattle.split.specs.Answer.{answerOf}
 use Rattle.split.specs.Reads.{readsFormula}
-use Rattle.split.specs.Repair.{donor, pieceOf, placeOf, receiver}
+use Rattle.split.specs.Repair.{pieceOf, placeOf}
 use Rattle.split.specs.Search.{Trace, answered, refused, searched}
 use Rattle.split.specs.declared.Piece.{Piece}
 use Rattle.split.specs.declared.SearchAnswer.{SearchAnswer}
@@ -46,13 +46,18 @@ NamedDiffers =
     → searched (log vs) (log ws) ≡ answered f a d → f .verdict ≡ differAt i
     → (1 ≤ i) × (i ≤ length vs) × (i ≤ length ws) × (getD vs (i - 1) [] ≡ getD ws (i - 1) [] → ⊥)
 
--- where the search agrees with the comparison: the other log, cut to the common count, and then the piece are the donor byte for byte
+-- the log b, cut to its first k values, and then the piece s are the log c
+abbrev pub Heals : List ℕ → ℕ → List ℕ → List ℕ → Type 0
+Heals b k s c = (end : ℕ) × (cutTo b (length b) k ≡ counted end) × (take end b ++ s ≡ c)
+
+-- where the search agrees with the comparison: the other log, cut to the common count, and then the piece are the donor byte for byte. The
+-- donor has more entries; it is the first if equal
 abbrev pub RepairHeals : Type 0
 RepairHeals =
     (vs ws : List (List ℕ)) (a d : Trace) → Values vs → Values ws → searched (log vs) (log ws) ≡ answered (compared vs ws) a d
-    → (other : List ℕ) → other ≡ receiver (length vs) (length ws) (log vs) (log ws)
-    → (end : ℕ) × (cutTo other (length other) (compared vs ws .common) ≡ counted end)
-    × (take end other ++ pieceOf (log vs) (log ws) (searched (log vs) (log ws)) ≡ donor (length vs) (length ws) (log vs) (log ws))
+    → (s : List ℕ) → s ≡ pieceOf (log vs) (log ws) (searched (log vs) (log ws))
+    → (length vs < length ws → Heals (log vs) (compared vs ws .common) s (log ws))
+    × (length ws ≤ length vs → Heals (log ws) (compared vs ws .common) s (log vs))
 
 -- ---- any bytes
 
