@@ -350,7 +350,8 @@ def search_picture(folder):
             (0, "bring", "way to entry %d" % n),
             (170, "down", "way down to the difference"),
             (400, "read", "entry read"),
-            (530, "≠ =", "how the digests of a node compare in the two logs"),
+            (520, "other", "not on the way"),
+            (670, "≠ =", "how the two digests compare"),
         ],
     )
     picture.write(folder, 1110, y + 26)
