@@ -232,7 +232,7 @@ static bool prove(struct log *copy, const struct log *ring, size_t index)
     item[value.length - 1] ^= 1;
     forged = ringlog_check_proof(ring->entries, index, item, (size_t)value.length, proof,
                                  (size_t)made.value, ring->root, RINGLOG_DIGEST);
-    printf("tampered: %s\n", forged ? "yes" : "no");
+    printf("with one bit changed: %s\n", forged ? "yes" : "no");
     return accepted && !forged;
 }
 

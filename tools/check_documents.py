@@ -2,9 +2,9 @@
 """check_documents.py: holds what the documents say of the repository to the repository.
 
 - Every link of a document to a file leads to one.
-- In the tables of docs/DEMANDS.md every definition, proof, edit and test exists, and every claim and every edit is in one
-  of them. In those of docs/DEFINITIONS.md every definition exists.
-- The public calls that docs/DEMANDS.md lists are there, and none has a `requires`.
+- In the tables of docs/DEMANDS.md every definition, function, law, proof, edit and test exists, and every claim and every
+  edit is in one of them. In those of docs/DEFINITIONS.md every definition and every claim exists.
+- The public calls are those that docs/DEMANDS.md lists, and none has a `requires`.
 """
 import re
 import sys
@@ -13,7 +13,8 @@ from pathlib import Path
 TOP = Path(__file__).resolve().parent.parent
 CRATES = TOP / "crates"
 PROGRAMS = {"bench_sheet", "sha256_vectors", "ringaudit"}
-USERS_CRATES = ["sha256", "ringlog", "inclusion", "split", "ringlog_c"]
+# The modules of what users call. What else is public there is for the crates above.
+USERS_MODULES = ["sha256/src/lib.rt", "ringlog/src/*.rt", "inclusion/src/*.rt", "split/src/*.rt", "ringlog_c/src/lib.rt"]
 problems = []
 
 
@@ -21,22 +22,21 @@ def problem(document, text):
     problems.append("%s: %s" % (document, text))
 
 
-def lines_of(path):
-    return path.read_text().split("\n")
-
-
 def tables(document):
     """The rows of a document's tables but for their headings, as lists of cells."""
-    for line in lines_of(TOP / document):
+    for line in (TOP / document).read_text().split("\n"):
         if line.startswith("| ") and not line.startswith(("| Sentence", "| |", "|---")):
             yield [cell.strip() for cell in line[1:-1].split("|")]
 
 
-def is_defined(crate, name, file):
-    """Whether crates/CRATE/specs/FILE.antt declares the name: at the beginning of a line, as a field or as a case."""
-    path = CRATES / crate / "specs" / (file + ".antt")
-    declared = r"(?m)^\s*(?:abbrev |unfoldable |pub |record |data |mutual )*%s\b(?=[\s:(])" % re.escape(name)
-    return path.exists() and re.search(declared, path.read_text()) is not None
+def text_of(pattern):
+    return "\n".join(path.read_text() for path in sorted(CRATES.glob(pattern)))
+
+
+def is_declared(name, text):
+    """Whether antt text declares the name: at the beginning of a line, as a field or as a case."""
+    declared = r"(?m)^\s*(?:abbrev |unfoldable |pub |record |data )*%s(?=[\s:(])" % re.escape(name)
+    return re.search(declared, text) is not None
 
 
 def definitions(cell):
@@ -48,8 +48,15 @@ def definitions(cell):
 
 def check_definitions(document, cell):
     for crate, file, name in definitions(cell):
-        if not is_defined(crate, name, file):
+        if not is_declared(name, text_of("%s/specs/%s.antt" % (crate, file))):
             problem(document, "no %s in crates/%s/specs/%s.antt" % (name, crate, file))
+
+
+def claims():
+    """Crate, file and name of each claim."""
+    for path in [*CRATES.glob("*/specs/Claims.antt"), CRATES / "slate/specs/BenchSheet.antt"]:
+        for name in re.findall(r"(?m)^abbrev pub ([A-Z]\w*) : Type 0$", path.read_text()):
+            yield path.parent.parent.name, path.stem, name
 
 
 def check_links(document):
@@ -58,10 +65,12 @@ def check_links(document):
             problem(document, "no file " + target)
 
 
-def claims():
-    for path in [*CRATES.glob("*/specs/Claims.antt"), CRATES / "slate/specs/BenchSheet.antt"]:
-        for name in re.findall(r"(?m)^abbrev pub ([A-Z]\w*) : Type 0$", path.read_text()):
-            yield path.parent.parent.name, path.stem, name
+def check_other_names(document, cell):
+    """A name that stands behind no CRATE/FILE is a function of the code, a law, or one that the toolchain supplies."""
+    known = {name for _, _, name in definitions(cell)} | {"requires", "wrapping_add_u32"}
+    for name in set(re.findall(r"`([\w-]+)`", cell)) - known:
+        if not re.search(r"\bfn %s\b" % re.escape(name), text_of("*/src/*.rt")) and not is_declared(name, text_of("*/proofs/*.antt")):
+            problem(document, "no function and no law " + name)
 
 
 def proof_exists(place):
@@ -88,44 +97,66 @@ def check_tests(document, cell):
             problem(document, "no test " + test)
 
 
+def check_edits(document, listed):
+    """Each edit is listed, and its name is that of no other."""
+    edits = [path.stem for path in CRATES.glob("*/must-fail/*.edit")]
+    for edit in sorted(listed ^ set(edits)):
+        problem(document, ("no edit " if edit in listed else "not listed: the edit ") + edit)
+    for edit in sorted({edit for edit in edits if edits.count(edit) > 1}):
+        problem(document, "two edits are called " + edit)
+
+
 def check_demands(document):
     listed, told = set(), set()
-    edits = {path.stem for path in CRATES.glob("*/must-fail/*.edit")}
     for row in tables(document):
         if len(row) != 5:
             problem(document, "a row of %d cells: %s" % (len(row), row[0]))
             continue
-        sentence, said, proved, refused, tests = row
+        _, said, proved, refused, tests = row
         check_definitions(document, said)
+        check_other_names(document, said)
         check_proofs(document, proved)
         check_tests(document, tests)
         told.update(definitions(said))
         listed.update(filter(None, refused.split(", ")))
-    for edit in sorted(listed ^ edits):
-        problem(document, ("no edit " if edit in listed else "not listed: the edit ") + edit)
+    check_edits(document, listed)
     for claim in sorted(set(claims()) - told):
         problem(document, "not listed: the claim %s/%s %s" % claim)
 
 
 def public_calls():
-    """Each public function of the users' crates with its contract, up to the body."""
-    for crate in USERS_CRATES:
-        for path in sorted((CRATES / crate / "src").glob("*.rt")):
-            for name, contract in re.findall(r"(?m)^pub (?:extern \"C\" )?fn (\w+)(.*?)^\{", path.read_text(), re.S | re.M):
-                yield name, contract
+    """Each function that the users' crates give out, with its contract up to the body."""
+    calls = {}
+    for pattern in USERS_MODULES:
+        text = text_of(pattern)
+        given = set(re.findall(r"(?m)^pub use \w+::(\w+);", text_of(pattern.split("/")[0] + "/src/lib.rt")))
+        in_lib = pattern.endswith("lib.rt")
+        for name, contract in re.findall(r"^pub (?:extern \"C\" )?fn (\w+)(.*?)^\{", text, re.S | re.M):
+            if in_lib or name in given:
+                calls[name] = contract
+    return calls
 
 
 def check_public_calls(document):
     row = next(row for row in tables(document) if "no `requires`" in row[0])
-    calls = dict(public_calls())
-    named = set(re.findall(r"`(\w+)`", row[1])) | {name for name in calls if name.startswith("ringlog_")}
-    for name in sorted(named):
-        if name not in calls:
-            problem(document, "no public call " + name)
-        elif "requires" in calls[name]:
-            problem(document, "%s has a requires" % name)
-    if sum(name.startswith("ringlog_") for name in named) != 10:
-        problem(document, "ringlog_c has not ten functions")
+    calls = public_calls()
+    listed = set(re.findall(r"`(\w+)`", row[1]))
+    exported = {name for name in calls if name.startswith("ringlog_")}
+    for name in sorted(listed ^ (set(calls) - exported)):
+        problem(document, ("no public call " if name in listed else "not listed: the call ") + name)
+    for name in sorted(name for name in calls if "requires" in calls[name]):
+        problem(document, "%s has a requires" % name)
+    if len(exported) != 10:
+        problem(document, "ringlog_c has %d functions" % len(exported))
+
+
+def check_claims_named(document):
+    known = {name for _, _, name in claims()}
+    for row in tables(document):
+        check_definitions(document, row[-1])
+        for names in re.findall(r"claims? ((?:`\w+`(?:, )?)+)", row[-1]):
+            for name in set(re.findall(r"\w+", names)) - known:
+                problem(document, "no claim " + name)
 
 
 def main():
@@ -133,8 +164,7 @@ def main():
         check_links(path.relative_to(TOP))
     check_demands("docs/DEMANDS.md")
     check_public_calls("docs/DEMANDS.md")
-    for row in tables("docs/DEFINITIONS.md"):
-        check_definitions("docs/DEFINITIONS.md", row[-1])
+    check_claims_named("docs/DEFINITIONS.md")
     sys.exit("\n".join(problems) or 0)
 
 

@@ -1,10 +1,12 @@
 // The lines of document 01's bench sheet that are to be run, each with what the library answers. The
 // nine lines marked P are one theorem (crates/slate/specs/BenchSheet.antt); what they say of moves and
-// of eight taps is run here too. NIST's vectors of the hash are run by sha256_vectors.
+// of eight taps is run here too, and so are the two calls that return a part of a log, which C cannot
+// call. NIST's vectors of the hash are run by sha256_vectors.
 mod print;
 
 ghost use Rattle.io.specs.Counts.{Counts};
 use inclusion::proof;
+use inclusion::value;
 use inclusion::value_number;
 use print::print_answer;
 use print::print_line;
@@ -15,6 +17,7 @@ use print::print_text;
 use ringlog::Counted;
 use ringlog::append;
 use ringlog::cut;
+use split::repair;
 
 // The lengths of logs of seven taps and of 4,096 tickets.
 const SEVEN_TAPS: usize = 994;
@@ -30,6 +33,7 @@ fn main() {
     run_cuts();
     run_values();
     run_proofs();
+    run_repairs();
     run_empty();
 }
 
@@ -125,6 +129,7 @@ fn run_values() {
     appended(&mut log, &tap(), 7);
     let root = ringlog::root(&log).digest;
     print_refusal(b"checked value 1: ", value_number(&log, &root, 1));
+    print_line(b"bytes of that value: ", value(&log, &root, 1).len());
     print_refusal(b"checked value 0: ", value_number(&log, &root, 0));
 }
 
@@ -136,6 +141,15 @@ fn run_proofs() {
     print_answer(b"proof of 1 into 96 bytes: ", proof(&log, 1, &mut output));
     print_answer(b"proof of 1 into 95 bytes: ", proof(&log, 1, &mut short));
     print_answer(b"proof of 0: ", proof(&log, 0, &mut [0u8; 96]));
+}
+
+// What one of two logs lacks of the other: behind no taps seven, and of equal logs nothing.
+fn run_repairs() {
+    let mut log = [0u8; SEVEN_TAPS];
+    appended(&mut log, &tap(), 7);
+    let empty = [0u8; 0];
+    print_line(b"piece for an empty log: ", repair(&log, &empty).len());
+    print_line(b"piece for an equal log: ", repair(&log, &log).len());
 }
 
 fn run_empty() {
