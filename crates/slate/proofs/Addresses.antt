@@ -26,11 +26,11 @@ highest-le x zero = omega arith
 highest-le x (suc p) = by-digit x p (λ d. rw d (omega (arith, highest-le x p))) (λ d. rw d (omega arith))
 
 -- of the digits below p + 1 the highest that is set is p or one below p
-pub highest-none : (x p : ℕ) → digit x p ≡ 0 → highest x (suc p) ≡ highest x p
+highest-none : (x p : ℕ) → digit x p ≡ 0 → highest x (suc p) ≡ highest x p
 unfolding highest
 highest-none x p d = rw d
 
-pub highest-here : (x p : ℕ) → digit x p ≡ 1 → highest x (suc p) ≡ suc p
+highest-here : (x p : ℕ) → digit x p ≡ 1 → highest x (suc p) ≡ suc p
 unfolding highest
 highest-here x p d = rw d
 
@@ -65,6 +65,12 @@ node-digit x (suc p) n f = let e : suc p - 1 ≡ p = omega arith in rw e n
 -- k is its height: the digit below k is set
 pub highest-digit : (x h k : ℕ) → k ≡ highest x h → (k ≡ 0 → ⊥) → digit x (k - 1) ≡ 1
 highest-digit x h k e f = node-digit x k (rw e (highest-node x h)) f
+
+-- what stays the same from height p + 1 to p where digit p is not set is the same at the highest node
+pub to-highest {ℓ} : {A : Type ℓ} (x : ℕ) (f : ℕ → A) → ((p : ℕ) → digit x p ≡ 0 → f (suc p) ≡ f p) → (h : ℕ) → f h ≡ f (highest x h)
+unfolding highest
+to-highest x f stays zero = refl
+to-highest x f stays (suc p) = by-digit x p (λ d. rw d (stays p d ∙ to-highest x f stays p)) (λ d. rw d)
 
 -- no node of height at most h is higher
 pub highest-most : (x h q : ℕ) → q ≤ h → HasNode x q → q ≤ highest x h

@@ -2,7 +2,7 @@
 -- Assumes nothing.
 use mathlib.Core.List.{List, []}
 use mathlib.Core.Logic.{_⊎_, inl, inr, ⊎-elim}
-use mathlib.Core.Path.{_≡_, sym}
+use mathlib.Core.Path.{_≡_}
 use Prim.Native.Nat.{ℕ, zero, suc, _-_, _<_}
 use native.Mathlib.Omega.{arith}
 use lib.ListN.{length, getD}
@@ -16,17 +16,6 @@ use Rattle.slate.proofs.Bits.{base-zero, left-base, left-lt, left-pred,
 use Rattle.slate.proofs.Cases.{by-digit, by-equal, by-order}
 use Rattle.slate.proofs.Lists.{append-inj}
 use Rattle.slate.proofs.Tops.{top-length}
-
-pub clash-sym : {pre : Rule} {vs ws : List (List ℕ)} → Clash pre vs ws → Clash pre ws vs
-clash-sym c =
-    record {
-      index = c .index;
-      height = c .height;
-      first = c .second;
-      second = c .first;
-      inputs = λ e. c .inputs (sym e);
-      digests = sym (c .digests);
-    }
 
 module _ (pre : Rule) (vs ws : List (List ℕ)) where
   -- two inputs with one digest at the same place are a clash

@@ -10,13 +10,13 @@ use Rattle.slate.proofs.Bits.{base-under, base-zero, no-left}
 use Rattle.slate.proofs.Cases.{by-digit, by-order}
 
 -- what holds at the leaf, and one node higher where it holds below it, on the side of the leaf
-pub to-leaf {ℓ} : (P : ℕ → ℕ → Type ℓ) (t : ℕ)
+pub to-leaf {ℓ} : {P : ℕ → ℕ → Type ℓ} (t : ℕ)
     → P t 0
     → ((x p : ℕ) → base x (suc p) ≤ t → t ≤ x → digit x p ≡ 0 → P x p → P x (suc p))
     → ((x p : ℕ) → base x (suc p) ≤ t → t ≤ x → digit x p ≡ 1 → t < base x p → P (left x p) p → P x (suc p))
     → ((x p : ℕ) → base x (suc p) ≤ t → t ≤ x → digit x p ≡ 1 → base x p ≤ t → P x p → P x (suc p))
     → (x h : ℕ) → base x h ≤ t → t ≤ x → P x h
-to-leaf P t leaf none onLeft onRight = go
+to-leaf {P = P} t leaf none onLeft onRight = go
   where
     go : (x h : ℕ) → base x h ≤ t → t ≤ x → P x h
     go x zero low high = let e : x ≡ t = omega (arith, base-zero x) in rw e leaf

@@ -1,4 +1,4 @@
--- Document 01's formulas for the moves to a leaf and for the length of an entry are what the recursion on the height counts.
+-- Document 01's formulas for the moves to a leaf are what the recursion on the height counts.
 -- Assumes nothing.
 use mathlib.Core.Path.{_≡_, refl, sym, ap, _∙_}
 use Prim.Native.Nat.{ℕ, zero, suc, _+_, _*_, _-_, _/_, _%_, _^_, _≤_, _<_}
@@ -11,11 +11,11 @@ use lib.Dec.{ltb}
 use lib.Pow.{pow-pos, shr-mono}
 use Rattle.slate.specs.Claims as claims
 use Rattle.slate.specs.Digits.{base, digit, left, maxHeight, onesBelow}
-use Rattle.slate.specs.Length.{entryLen}
 use Rattle.slate.specs.Moves.{hops, hopsFrom, lefts, leftsFrom, splitBit, turn}
 use Rattle.slate.proofs.Bits.{base-gt, base-le, half, in-block, left-pred, onesBelow-all, onesBelow-mod}
 use Rattle.slate.proofs.Cases.{by-bool, by-digit, by-order}
-use Rattle.slate.proofs.HighestBit.{Differ, split-bit, split-le, trailing-is, trailing-lt}
+use Rattle.slate.proofs.Descent.{moves-left, moves-none, moves-right}
+use Rattle.slate.proofs.HighestBit.{Differ, same-above, split-bit, split-le, trailing-is, trailing-lt}
 
 -- ---- the recursion's bounds
 
@@ -100,10 +100,9 @@ full-hops : (z t h : ℕ) → Full z t h → hopsFrom z h t ≡ h
 unfolding hopsFrom
 full-hops z t zero f = refl
 full-hops z t (suc p) f =
-    rw (full-set z t p f)
-    (by-digit t p
-    (λ d. rw (lt-ltb t (base z p) (full-before z t p f d)) (ap suc (full-hops (left z p) t p (full-left z t p f d))))
-    (λ d. rw (le-ltb t (base z p) (full-after z t p f d)) (ap suc (full-hops z t p (full-right z t p f d)))))
+    by-digit t p
+    (λ d. moves-left z p t (full-set z t p f) (full-before z t p f d) ∙ ap suc (full-hops (left z p) t p (full-left z t p f d)))
+    (λ d. moves-right z p t (full-set z t p f) (full-after z t p f d) ∙ ap suc (full-hops z t p (full-right z t p f d)))
 
 -- ---- the moves from the root: above bit j all go right, and then there is a full subtree
 
@@ -163,8 +162,7 @@ module _ (n x t j : ℕ) (next : suc x ≡ n) (le : t ≤ x) (d : Differ n t j) 
   -- above bit j: a right move at each bit of n
   module _ (h : ℕ) (high : suc j ≤ h) where
     above-same : n / 2 ^ h ≡ t / 2 ^ h
-    above-same =
-        le-ind (λ (m : ℕ). n / 2 ^ m ≡ t / 2 ^ m) (d .above) (λ m k e. half n m ∙ ap (λ (q : ℕ). q / 2) e ∙ sym (half t m)) h high
+    above-same = same-above n t (suc j) h (d .above) high
 
     above-quotient : x / 2 ^ h ≡ n / 2 ^ h
     above-quotient =
@@ -209,10 +207,6 @@ no-digit : (x h : ℕ) → x < 2 ^ h → digit x h ≡ 0
 unfolding digit
 no-digit x h lt = rw (div-eq-of-lt lt)
 
-hops-top : (x h t : ℕ) → x < 2 ^ h → hopsFrom x (suc h) t ≡ hopsFrom x h t
-unfolding hopsFrom
-hops-top x h t lt = rw (no-digit x h lt)
-
 lefts-top : (x h t : ℕ) → x < 2 ^ h → leftsFrom x (suc h) t ≡ leftsFrom x h t
 unfolding leftsFrom
 lefts-top x h t lt = rw (no-digit x h lt)
@@ -233,7 +227,7 @@ hops-formula n i first last small =
           (suc maxHeight) (omega (arith, split-le n i)),
       onesBelow-all n (suc maxHeight) (omega (arith, pow-suc 2 maxHeight, pow-pos maxHeight)),
       ones-split n (suc (splitBit n i)),
-      hops-top (n - 1) maxHeight (i - 1) (omega arith),
+      moves-none (n - 1) maxHeight (i - 1) (no-digit (n - 1) maxHeight (omega arith)),
     )
 
 pub lefts-formula : claims.LeftsFormula
@@ -246,11 +240,3 @@ lefts-formula n i first last small =
           (suc maxHeight) (omega (arith, split-le n i)),
       lefts-top (n - 1) maxHeight (i - 1) (omega arith),
     )
-
--- 43, the value item, and 70 times the number of ones in the position
-pub entry-len-ones : (n x : ℕ) → x < 2 ^ maxHeight → entryLen n x ≡ 43 + n + 70 * ones x
-unfolding entryLen
-entry-len-ones n x lt = rw (onesBelow-all x maxHeight lt)
-
-pub entry-length : claims.EntryLength
-entry-length n i first last = entry-len-ones n (i - 1) (omega arith)

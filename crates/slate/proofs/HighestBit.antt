@@ -58,16 +58,18 @@ split-bit n i first last small =
     let some = pow-pos maxHeight in
     differ n (i - 1) (suc maxHeight) (omega arith) (div-eq-of-lt (omega arith) ∙ sym (div-eq-of-lt (omega arith)))
 
-same-above : (n t j p : ℕ) → n / 2 ^ suc j ≡ t / 2 ^ suc j → j < p → digit n p ≡ digit t p
-unfolding digit
-same-above n t j p e lt =
-    ap (λ (q : ℕ). q % 2)
-    (le-ind (λ (m : ℕ). n / 2 ^ m ≡ t / 2 ^ m) e (λ m k d. half n m ∙ ap (λ (q : ℕ). q / 2) d ∙ sym (half t m)) p lt)
+-- the same from bit j on: the same from each higher bit on
+pub same-above : (n t j h : ℕ) → n / 2 ^ j ≡ t / 2 ^ j → j ≤ h → n / 2 ^ h ≡ t / 2 ^ h
+same-above n t j h e le =
+    le-ind (λ (m : ℕ). n / 2 ^ m ≡ t / 2 ^ m) e (λ m k d. half n m ∙ ap (λ (q : ℕ). q / 2) d ∙ sym (half t m)) h le
 
 pub split-highest : claims.SplitBit
+unfolding digit
 split-highest n i first last small =
-    let d = split-bit n i first last small in
-    (λ e. omega (arith, d .set, d .clear), λ p lt. same-above n (i - 1) (splitBit n i) p (d .above) lt)
+    let d = split-bit n i first last small in (
+      λ e. omega (arith, d .set, d .clear),
+      λ p lt. ap (λ (q : ℕ). q % 2) (same-above n (i - 1) (suc (splitBit n i)) p (d .above) lt),
+    )
 
 pub split-le : (n i : ℕ) → splitBit n i ≤ maxHeight
 unfolding splitBit

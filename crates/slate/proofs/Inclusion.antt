@@ -10,7 +10,6 @@ use borrow.Author.Tests.{le-leb, le-ltb, lt-leb, lt-ltb}
 use lib.Dec.{leb, ltb}
 use lib.ListN.{length, getD, length-append}
 use Rattle.sha256.specs.Fips180.{sha256}
-use Rattle.sha256.proofs.DigestBytes.{digest-length}
 use Rattle.slate.specs.Address.{HasNode}
 use Rattle.slate.specs.Bytes.{part}
 use Rattle.slate.specs.Claims as claims
@@ -48,7 +47,7 @@ module _ (t : ℕ) where
   pub single-count : (x h : ℕ) → base x h ≤ t → t ≤ x → cuts (single t) x h ≡ hopsFrom x h t
   unfolding cuts hopsFrom
   single-count =
-      to-leaf (λ x h. cuts (single t) x h ≡ hopsFrom x h t) t
+      to-leaf t
       (rw kept-leaf)
       (λ x p a b d e. rw (kept x (suc p) a b, d) e)
       (λ x p a b d o e. rw (kept x (suc p) a b, d, lt-ltb t (base x p) o) (rw (cuts-one (single t) x p (right-cut x p o)) (omega arith)))
@@ -57,7 +56,7 @@ module _ (t : ℕ) where
   pub single-path : (pre : Rule) (vs : List (List ℕ)) (x h : ℕ) → base x h ≤ t → t ≤ x → cutDigests pre (single t) vs x h ≡ pathFrom pre vs x h t
   unfolding cutDigests pathFrom
   single-path pre vs =
-      to-leaf (λ x h. cutDigests pre (single t) vs x h ≡ pathFrom pre vs x h t) t
+      to-leaf t
       (rw kept-leaf)
       (λ x p a b d e. rw (kept x (suc p) a b, d) e)
       (λ x p a b d o e. rw (kept x (suc p) a b, d, lt-ltb t (base x p) o, lt-leb (base x p) t o)
@@ -69,7 +68,7 @@ module _ (t : ℕ) where
       → rebuilt pre (single t) (λ y. v) x h proof ≡ foldFrom pre x h t (sha256 (leafInput pre v)) proof
   unfolding rebuilt foldFrom part
   single-fold pre v proof =
-      to-leaf (λ x h. rebuilt pre (single t) (λ y. v) x h proof ≡ foldFrom pre x h t (sha256 (leafInput pre v)) proof) t
+      to-leaf t
       (rw kept-leaf)
       (λ x p a b d e. rw (kept x (suc p) a b, d) e)
       (λ x p a b d o e. rw (kept x (suc p) a b, d, lt-ltb t (base x p) o, lt-leb (base x p) t o)
@@ -87,7 +86,7 @@ module _ (t : ℕ) where
       let over = outside-false t (suc t) (g .position) (g .height) (at .1) in
       (at .0, at .2, omega arith, over .0)
 
--- ---- lengths
+-- ---- length
 
 pub path-length : (pre : Rule) (vs : List (List ℕ)) (x h t : ℕ) → length (pathFrom pre vs x h t) ≡ 32 * hopsFrom x h t
 unfolding pathFrom hopsFrom
@@ -99,15 +98,6 @@ path-length pre vs x (suc p) t =
     (by-bool (ltb t (base x p))
     (λ o. rw (o, length-append, top-length, path-length pre vs (left x p) p t) (omega arith))
     (λ o. rw (o, length-append, top-length, path-length pre vs x p t) (omega arith))))
-
--- a fold of a leaf's digest is a digest
-pub fold-length : (pre : Rule) (x h t : ℕ) (d proof : List ℕ) → length d ≡ 32 → length (foldFrom pre x h t d proof) ≡ 32
-unfolding foldFrom
-fold-length pre x zero t d proof e = e
-fold-length pre x (suc p) t d proof e =
-    by-digit x p
-    (λ z. rw z (fold-length pre x p t d proof e))
-    (λ s. rw s (by-bool (ltb t (base x p)) (λ o. rw (o, digest-length)) (λ o. rw (o, digest-length))))
 
 -- ---- completeness and soundness
 

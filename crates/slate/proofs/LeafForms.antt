@@ -3,16 +3,15 @@
 use mathlib.Core.List.{List, _∷_, _++_}
 use mathlib.Core.Path.{_≡_, ap, _∙_}
 use Prim.Native.Nat.{ℕ, _-_}
-use native.Mathlib.Omega.{arith}
-use lib.ListN.{length, take, drop, length-drop, take-append-drop}
-use lib.Seq.{take-all}
+use lib.ListN.{length, take, drop, take-append-drop}
 use Rattle.sha256.specs.Answer.{tagged}
 use Rattle.sha256.specs.Fips180.{sha256}
 use Rattle.slate.specs.Tree.{leafInput, slate}
+use Rattle.slate.proofs.Lists.{rest-slice}
 
 -- an item is its kind and its body
 kind-body : (v : List ℕ) → take 1 v ++ take (length v - 1) (drop 1 v) ≡ v
-kind-body v = rw (take-all (length v - 1) (drop 1 v) (omega (arith, length-drop 1 v))) (take-append-drop 1 v)
+kind-body v = rw (rest-slice v 1) (take-append-drop 1 v)
 
 pub leaf-hashed : (v r : List ℕ) → r ≡ tagged 0 (take 1 v) (take (length v - 1) (drop 1 v)) → r ≡ sha256 (leafInput slate v)
 unfolding tagged

@@ -13,6 +13,7 @@ pub mod HighestBit
 pub mod Inclusion
 pub mod LeafForms
 pub mod Leaves
+pub mod Lengths
 pub mod Lists
 pub mod Outside
 pub mod PartialTree

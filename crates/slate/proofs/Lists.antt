@@ -9,7 +9,7 @@ use native.Mathlib.Omega.{arith}
 use borrow.Author.Tests.{eq-eqb, eqb-true}
 use lib.Dec.{eqb}
 use lib.ListN.{length, getD, take, drop, length-take, length-drop, List·getD-eq-default}
-use lib.Seq.{drop-at, drop-drop, getD-drop, getD-take, take-at, take-take}
+use lib.Seq.{drop-at, drop-drop, getD-drop, getD-take, take-all, take-at, take-take}
 use Rattle.slate.specs.Bytes.{Bytes, part, same}
 use Rattle.slate.proofs.Cases.{by-bool, by-order, true-false}
 
@@ -80,6 +80,10 @@ part-byte b o n k h = rw (getD-take n (drop o b) k 0 h) (getD-drop o b k 0)
 pub part-slice : (b : List ℕ) (o n : ℕ) → take (o + n - o) (drop o b) ≡ part b o n
 unfolding part
 part-slice b o n = rw add-sub-cancel-left
+
+-- the bytes from o up to the end
+pub rest-slice : (b : List ℕ) (o : ℕ) → take (length b - o) (drop o b) ≡ drop o b
+rest-slice b o = take-all (length b - o) (drop o b) (omega (arith, length-drop o b))
 
 -- ---- two lists end to end
 

@@ -1,4 +1,4 @@
--- The subtrees outside a run of positions: the layout of the path of one value, of the proof of a run and of the consistency proof.
+-- The subtrees outside a run of positions: none of their leaves is in it. In the path of one value those outside its own position are cut off.
 -- Assumes nothing.
 use mathlib.Core.Bool.{Bool, true, false}
 use mathlib.Core.Path.{_≡_}

@@ -1,5 +1,5 @@
--- A proof over part of a tree: some subtrees, cut off, stand as digests, and of the rest the values are handed in. The path of one
--- value, the proof of a run of values and the consistency proof are of this form.
+-- A proof over part of a tree: some subtrees, cut off, stand as digests, and of the rest the values are handed in. A layout says which
+-- subtrees are cut off, and in which order their digests stand. The path of one value is the case that Inclusion.antt takes.
 -- Assumes nothing.
 use mathlib.Core.Bool.{Bool, true, false}
 use mathlib.Core.List.{List, [], _++_, append-assoc}

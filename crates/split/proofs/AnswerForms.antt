@@ -6,8 +6,7 @@ use Prim.Native.Nat.{ℕ, _-_, _≤_, _<_}
 use native.Mathlib.Omega.{arith}
 use borrow.Author.Tests.{le-ltb, lt-ltb}
 use lib.Dec.{ltb}
-use lib.ListN.{length, drop, take, length-drop}
-use lib.Seq.{take-all}
+use lib.ListN.{length, drop, take}
 use Rattle.slate.specs.Bytes.{part}
 use Rattle.slate.specs.Comparison as comparison
 use Rattle.split.specs.Answer.{found, splitOf, verdictOf}
@@ -21,6 +20,7 @@ use Rattle.split.specs.declared.Piece.{Piece}
 use Rattle.split.specs.declared.Tally.{Tally}
 use Rattle.split.specs.declared.Verdict.{Verdict}
 use Rattle.slate.proofs.Cases.{by-bool}
+use Rattle.slate.proofs.Lists.{rest-slice}
 use Rattle.split.proofs.LocateForms.{by-found, ends-inside}
 
 verdict-back : (v : comparison.Verdict) → verdictOf (toVerdict v) ≡ v
@@ -33,31 +33,21 @@ verdict-back (comparison.differAt i) = refl
 module _ (b c : List ℕ) (w : Located) (ew : w ≡ locatedOf (searched b c)) where
   pub found-split : (n : ℕ) (v : Verdict) (a d : Tally) → w ≡ located.Found n v a d
       → found n (verdictOf v) (a .reads) (d .reads) ≡ splitOf (searched b c)
-  found-split =
-      by-found b c w ew (λ n v a d. found n (verdictOf v) (a .reads) (d .reads) ≡ splitOf (searched b c))
-      (λ f r s run. rw (run, verdict-back (f .verdict)))
+  found-split = by-found b c w ew _ (λ f r s run. rw (run, verdict-back (f .verdict)))
 
   -- the entries in common end inside each log
   pub found-ends : (n : ℕ) (v : Verdict) (a d : Tally) → w ≡ located.Found n v a d → (a .at ≤ length b) × (d .at ≤ length c)
-  found-ends = by-found b c w ew (λ n v a d. (a .at ≤ length b) × (d .at ≤ length c)) (λ f r s run. ends-inside b c f r s run)
+  found-ends = by-found b c w ew _ (λ f r s run. ends-inside b c f r s run)
 
   pub in-second : (n : ℕ) (v : Verdict) (a d : Tally) → w ≡ located.Found n v a d → a .count < d .count
       → rest 2 c (d .at) ≡ placeOf b c (searched b c)
-  in-second =
-      by-found b c w ew (λ n v a d. a .count < d .count → rest 2 c (d .at) ≡ placeOf b c (searched b c))
-      (λ f r s run lt. rw (run, lt-ltb (r .count) (s .count) lt))
+  in-second = by-found b c w ew _ (λ f r s run lt. rw (run, lt-ltb (r .count) (s .count) lt))
 
   pub in-first : (n : ℕ) (v : Verdict) (a d : Tally) → w ≡ located.Found n v a d → d .count ≤ a .count
       → rest 1 b (a .at) ≡ placeOf b c (searched b c)
-  in-first =
-      by-found b c w ew (λ n v a d. d .count ≤ a .count → rest 1 b (a .at) ≡ placeOf b c (searched b c))
-      (λ f r s run le. rw (run, le-ltb (r .count) (s .count) le))
+  in-first = by-found b c w ew _ (λ f r s run le. rw (run, le-ltb (r .count) (s .count) le))
 
 -- ---- the piece, from where it lies
-
--- all that is left from o on
-rest-all : (o : ℕ) (b : List ℕ) → take (length b - o) (drop o b) ≡ drop o b
-rest-all o b = take-all (length b - o) (drop o b) (omega (arith, length-drop o b))
 
 -- p lies in the second log, in the first, or nowhere
 by-place {ℓ} : {P : Type ℓ} (b c : List ℕ) (p : Piece) → p ≡ placeOf b c (searched b c)
@@ -77,12 +67,12 @@ module _ (b c : List ℕ) (p : Piece) (e : p ≡ placeOf b c (searched b c)) whe
   pub of-second : p .donor ≡ 2
       → (p .offset ≤ length c) × (take (length c - p .offset) (drop (p .offset) c) ≡ pieceOf b c (searched b c))
   of-second h =
-      by-place b c p e (λ d le n q. (le, rest-all (p .offset) c ∙ q)) (λ d le n q. absurd (omega arith)) (λ d q. absurd (omega arith))
+      by-place b c p e (λ d le n q. (le, rest-slice c (p .offset) ∙ q)) (λ d le n q. absurd (omega arith)) (λ d q. absurd (omega arith))
 
   pub of-first : p .donor ≡ 1
       → (p .offset ≤ length b) × (take (length b - p .offset) (drop (p .offset) b) ≡ pieceOf b c (searched b c))
   of-first h =
-      by-place b c p e (λ d le n q. absurd (omega arith)) (λ d le n q. (le, rest-all (p .offset) b ∙ q)) (λ d q. absurd (omega arith))
+      by-place b c p e (λ d le n q. absurd (omega arith)) (λ d le n q. (le, rest-slice b (p .offset) ∙ q)) (λ d q. absurd (omega arith))
 
   pub in-neither : (p .donor ≡ 2 → ⊥) → (p .donor ≡ 1 → ⊥) → [] ≡ pieceOf b c (searched b c)
   in-neither f g = by-place b c p e (λ d le n q. absurd (f d)) (λ d le n q. absurd (g d)) (λ d q. q)
@@ -91,6 +81,6 @@ pub piece-placed : claims.PiecePlaced
 unfolding part
 piece-placed b c p e =
     by-place b c p e
-    (λ d le n q. (λ h. absurd (omega arith), λ h. rw n (rest-all (p .offset) c ∙ q), λ h. absurd (omega arith)))
-    (λ d le n q. (λ h. rw n (rest-all (p .offset) b ∙ q), λ h. absurd (omega arith), λ h. absurd (omega arith)))
+    (λ d le n q. (λ h. absurd (omega arith), λ h. rw n (rest-slice c (p .offset) ∙ q), λ h. absurd (omega arith)))
+    (λ d le n q. (λ h. rw n (rest-slice b (p .offset) ∙ q), λ h. absurd (omega arith), λ h. absurd (omega arith)))
     (λ d q. (λ h. absurd (omega arith), λ h. absurd (omega arith), λ h. q))

@@ -69,6 +69,6 @@ unread-free b c b′ c′ f a d lb lc h =
     searched-parted (brought-local v b′ lb (sb .0)) (brought-local w c′ lc (sc .0)) n
     (λ g. e (brought-top v b′ lb (sb .0) ∙ g ∙ sym (brought-top w c′ lc (sc .0))))
     u i j us vs
-    (down-local b c b′ c′ lb lc l m t maxHeight u i j us vs (omega arith) (brought-inside v) (brought-inside w)
+    (down-local b c b′ c′ lb lc l m t maxHeight u i j us vs (omega arith)
     (brought-same v b′ lb (sb .0)) (brought-same w c′ lc (sc .0)) r (sb .1) (sc .1)))
     f a d h

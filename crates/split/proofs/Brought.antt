@@ -6,15 +6,15 @@ use Prim.Native.Nat.{ℕ, zero, suc, _-_, _^_, _≤_, _<_}
 use native.Mathlib.Omega.{arith}
 use lib.ListN.{length}
 use lib.Seq.{take-all}
-use Rattle.slate.specs.Digits.{base, left, maxHeight}
+use Rattle.slate.specs.Digits.{base, maxHeight}
 use Rattle.slate.specs.Moves.{lefts}
 use Rattle.entry.specs.Read.{digestAt, entryLenAt}
 use Rattle.entry.specs.Shape.{Inside, openedLog}
 use Rattle.entry.specs.Walk.{Kept, Place, SameEntry, arrived, descend}
 use Rattle.entry.specs.declared.Opened.the-variants as opened
 use Rattle.split.specs.Search.{opening}
-use Rattle.slate.proofs.Bits.{base-under, base-zero, no-left, whole-base}
-use Rattle.slate.proofs.Cases.{by-digit, by-order}
+use Rattle.slate.proofs.Bits.{whole-base}
+use Rattle.slate.proofs.Descent.{to-leaf}
 use Rattle.entry.proofs.Claimed.{descent-reads}
 use Rattle.entry.proofs.Descents.{Stepped, descend-inside, descend-local, descend-none, descend-right, descend-stepped}
 use Rattle.entry.proofs.Shaped.{opened-empty, opened-local, opened-shaped, same-window, shaped-inside}
@@ -29,24 +29,19 @@ kept-split b c [] rs k = (tt, k)
 kept-split b c (q ∷ qs) rs k = let s = kept-split b c qs rs (k .1) in ((k .0, s .0), s .1)
 
 -- where a descent arrives is the entry begun with or one of those read
-descend-same : (b c : List ℕ) (o x h t l : ℕ) (qs : List Place) → base x h ≤ t → t ≤ x
+descend-same : (b c : List ℕ) (t l x h : ℕ) → base x h ≤ t → t ≤ x → (o : ℕ) (qs : List Place)
     → SameEntry b c (record { begins = o; position = x }) → descend b o x h t ≡ arrived l qs → Kept b c qs
     → SameEntry b c (record { begins = l; position = t })
 unfolding descend
-descend-same b c o x zero t l qs low high e h k =
-    let f : x ≡ t = omega (arith, base-zero x) in
-    let g : o ≡ l = cc in
-    rw (f, g) at e
-descend-same b c o x (suc p) t l qs low high e h k =
-    by-digit x p
-    (λ d. descend-same b c o x p t l qs (omega (arith, no-left x p d)) high e (sym (descend-none b o x p t d) ∙ h) k)
-    (λ d. by-order t (base x p)
-    (λ a.
+descend-same b c t l =
+    to-leaf t
+    (λ o qs e h k. let g : o ≡ l = cc in rw g at e)
+    (λ x p low high d f o qs e h k. f o qs e (sym (descend-none b o x p t d) ∙ h) k)
+    (λ x p low high d a f o qs e h k.
     let s : Stepped b o x p t l qs = descend-stepped b o x p t d a l qs h in
-    let u = base-under x p t d low a in
-    let f : Kept b c (leftEntry x p (s .to) ∷ s .rest) = rw (s .reads) at k in
-    descend-same b c (s .to) (left x p) p t l (s .rest) (u .0) (u .1) (f .0) (s .below) (f .1))
-    (λ a. descend-same b c o x p t l qs a high e (sym (descend-right b o x p t d a) ∙ h) k))
+    let g : Kept b c (leftEntry x p (s .to) ∷ s .rest) = rw (s .reads) at k in
+    f (s .to) (s .rest) (g .0) (s .below) (g .1))
+    (λ x p low high d a f o qs e h k. f o qs e (sym (descend-right b o x p t d a) ∙ h) k)
 
 -- the left moves of a whole descent, in document 01's terms
 pub descend-lefts : (b : List ℕ) (o x t l : ℕ) (qs : List Place) → t ≤ x → x < 2 ^ maxHeight → descend b o x maxHeight t ≡ arrived l qs
@@ -83,7 +78,7 @@ module _ {b : List ℕ} {o x t l : ℕ} {qs : List Place} (a : Brought b o x t l
   whole = omega (arith, whole-base x maxHeight (last-inside .few))
 
   pub brought-inside : Inside b l t
-  brought-inside = descend-inside b o x maxHeight t l qs last-inside whole (a .high) (a .run)
+  brought-inside = descend-inside b t l x maxHeight whole (a .high) o qs last-inside (a .run)
 
   pub brought-reads : length qs ≡ lefts (suc x) (suc t)
   brought-reads = descend-lefts b o x t l qs (a .high) (last-inside .few) (a .run)
@@ -94,14 +89,14 @@ module _ {b : List ℕ} {o x t l : ℕ} {qs : List Place} (a : Brought b o x t l
     brought-local = record {
       opens = opened-local b c o x len (a .opens) (k .0);
       high = a .high;
-      run = descend-local b c len o x maxHeight t l qs (omega arith) last-inside (k .0) (a .run) (k .1);
+      run = descend-local b c len o x maxHeight t l qs (omega arith) (k .0) (a .run) (k .1);
     }
 
     pub brought-same : SameEntry b c (record { begins = l; position = t })
-    brought-same = descend-same b c o x maxHeight t l qs whole (a .high) (k .0) (a .run) (k .1)
+    brought-same = descend-same b c t l x maxHeight whole (a .high) o qs (k .0) (a .run) (k .1)
 
     window : Window b l c l (entryLenAt b l t)
-    window = same-window b c l t len brought-inside brought-same
+    window = same-window b c l t brought-same
 
     pub brought-top : digestAt b l t maxHeight ≡ digestAt c l t maxHeight
     brought-top = digest-window t window maxHeight (omega arith)

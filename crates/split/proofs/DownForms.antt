@@ -61,7 +61,6 @@ pub record Node (b c : List ℕ) (o q x h k : ℕ) (v : Bool) : Type 0 where
   pub high : k ≡ 0 → ⊥
   pub lefts : same (leftDigestAt b o x (k - 1)) (leftDigestAt c q x (k - 1)) ≡ v
 
--- w is what the way below answers
 module _ (b c : List ℕ) (o q x h k : ℕ) where
   pub at-leaf : k ≡ highest x h → k ≡ 0 → answer.Leaf x o q 0 0 ≡ downOf (down b c o q x h)
   unfolding down
@@ -97,7 +96,7 @@ module _ (b c : List ℕ) (o q x h k : ℕ) where
       unfolding down
       second-refused z r = sym (turn n ∙ rw (set n, n .lefts, ← es, to, ← es′, r))
 
-      -- that leads to j; the entries there stand at position y
+      -- that leads to j; the entries there stand at position y, and w is what the way down from them answers
       module _ (j y : ℕ) (to′ : s′ ≡ step.To j) (ey : y ≡ left x (k - 1)) (w : Down) (ew : w ≡ downOf (down b c i j y (k - 1))) where
         stepped : downOf (down b c o q x h)
             ≡ downOf (readingBoth (record { begins = i; position = y }) (record { begins = j; position = y }) (down b c i j y (k - 1)))

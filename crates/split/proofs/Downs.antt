@@ -9,19 +9,18 @@ use Rattle.slate.specs.Address.{highest}
 use Rattle.slate.specs.Bytes.{same}
 use Rattle.slate.specs.Digits.{base, digit, left, maxHeight}
 use Rattle.entry.specs.Read.{digestAt, entryLenAt, leftDigestAt}
-use Rattle.entry.specs.Shape.{Inside}
 use Rattle.entry.specs.Walk.{Kept, Place, SameEntry, arrived, descend, leftStep, reading}
 use Rattle.entry.specs.declared.Cause.{Cause}
 use Rattle.entry.specs.declared.Step.{Step}
 use Rattle.entry.specs.declared.Step.the-variants as step
 use Rattle.split.specs.Below.{Below, afterBoth, blocked, down, leaf, readingBoth}
 use Rattle.split.specs.declared.Side.{Side}
+use Rattle.slate.proofs.Addresses.{to-highest}
 use Rattle.slate.proofs.Bits.{base-zero, left-base, left-end, left-lt, left-pred, no-left}
 use Rattle.slate.proofs.Cases.{by-bool, by-digit}
 use Rattle.slate.proofs.Lists.{same-false, same-ne, same-refl, same-true}
 use Rattle.entry.proofs.Descents.{Stepped, descend-left, descend-none, descend-right, left-step-local}
 use Rattle.entry.proofs.Shaped.{same-window}
-use Rattle.entry.proofs.StepForms.{step-inside}
 use Rattle.entry.proofs.Windows.{Window, digest-window, left-digest-window}
 
 -- ---- cases
@@ -109,9 +108,7 @@ module _ (b c : List ℕ) (o q x p : ℕ) where
 
 -- the way down begins at the highest node
 pub down-highest : (b c : List ℕ) (o q x h : ℕ) → down b c o q x h ≡ down b c o q x (highest x h)
-unfolding highest
-down-highest b c o q x zero = refl
-down-highest b c o q x (suc p) = by-digit x p (λ d. rw d (down-none b c o q x p d ∙ down-highest b c o q x p)) (λ d. rw d)
+down-highest b c o q x h = to-highest x (down b c o q x) (λ p d. down-none b c o q x p d) h
 
 -- ---- two descents
 
@@ -155,31 +152,29 @@ down-descends b c o q x (suc p) t l m qs rs h =
 -- two logs of the same lengths as these
 module _ (b c b′ c′ : List ℕ) (lb : length b ≡ length b′) (lc : length c ≡ length c′) where
   -- with the bytes of the entries at position x, and of all the entries read below, they get the same answer
-  pub down-local : (o q x h t l m : ℕ) (qs rs : List Place) → h ≤ maxHeight → Inside b o x → Inside c q x
+  pub down-local : (o q x h t l m : ℕ) (qs rs : List Place) → h ≤ maxHeight
       → SameEntry b b′ (record { begins = o; position = x }) → SameEntry c c′ (record { begins = q; position = x })
       → down b c o q x h ≡ leaf t l m qs rs → Kept b b′ qs → Kept c c′ rs
       → down b′ c′ o q x h ≡ leaf t l m qs rs
   unfolding down
-  down-local o q x zero t l m qs rs le ib ic eb ec h kb kc = h
-  down-local o q x (suc p) t l m qs rs le ib ic eb ec h kb kc =
-      let wb : Window b o b′ o (entryLenAt b o x) = same-window b b′ o x lb ib eb in
-      let wc : Window c q c′ q (entryLenAt c q x) = same-window c c′ q x lc ic ec in
+  down-local o q x zero t l m qs rs le eb ec h kb kc = h
+  down-local o q x (suc p) t l m qs rs le eb ec h kb kc =
+      let wb : Window b o b′ o (entryLenAt b o x) = same-window b b′ o x eb in
+      let wc : Window c q c′ q (entryLenAt c q x) = same-window c c′ q x ec in
       by-down b c o q x p t l m qs rs h
-      (λ d e. down-none b′ c′ o q x p d ∙ down-local o q x p t l m qs rs (omega arith) ib ic eb ec e kb kc)
+      (λ d e. down-none b′ c′ o q x p d ∙ down-local o q x p t l m qs rs (omega arith) eb ec e kb kc)
       (λ d e n f.
       down-right b′ c′ o q x p d (sym (left-digest-window x wb p le d) ∙ e ∙ left-digest-window x wc p le d)
       (λ g. n (digest-window x wb p (omega arith) ∙ g ∙ sym (digest-window x wc p (omega arith))))
-      ∙ down-local o q x p t l m qs rs (omega arith) ib ic eb ec f kb kc)
+      ∙ down-local o q x p t l m qs rs (omega arith) eb ec f kb kc)
       (λ d n s.
       let fb : Kept b b′ (leftEntry x p (s .first) ∷ s .first-rest) = rw (s .first-reads) at kb in
       let fc : Kept c c′ (leftEntry x p (s .second) ∷ s .second-rest) = rw (s .second-reads) at kc in
       down-left b′ c′ o q x p d (λ g. n (left-digest-window x wb p le d ∙ g ∙ sym (left-digest-window x wc p le d)))
       (s .first) (s .second)
-      (left-step-local b b′ lb o x p (s .first) le d ib eb (s .first-step) (fb .0))
-      (left-step-local c c′ lc q x p (s .second) le d ic ec (s .second-step) (fc .0))
+      (left-step-local b b′ lb o x p (s .first) le d eb (s .first-step) (fb .0))
+      (left-step-local c c′ lc q x p (s .second) le d ec (s .second-step) (fc .0))
       ∙ ap (readingBoth (leftEntry x p (s .first)) (leftEntry x p (s .second)))
       (down-local (s .first) (s .second) (left x p) p t l m (s .first-rest) (s .second-rest) (omega arith)
-      (step-inside b o x p (s .first) (left x p) (leftStep b o x p) refl (s .first-step) refl)
-      (step-inside c q x p (s .second) (left x p) (leftStep c q x p) refl (s .second-step) refl)
       (fb .0) (fc .0) (s .below) (fb .1) (fc .1))
       ∙ ap₂ (leaf t l m) (sym (s .first-reads)) (sym (s .second-reads)))

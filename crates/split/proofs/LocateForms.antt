@@ -158,8 +158,8 @@ ends-inside b c f a d h =
     (λ o x q y t l m qs rs v w n e. (brought-inside v .within, brought-inside w .within))
     (λ o x q y t l m qs rs v w n e u i j us vs r.
     let g = down-descends b c l m t maxHeight u i j us vs r in (
-      omega (arith, descend-inside b l t maxHeight u i us (brought-inside v) (g .0) (g .1) (g .2) .within),
-      omega (arith, descend-inside c m t maxHeight u j vs (brought-inside w) (g .0) (g .1) (g .3) .within),
+      omega (arith, descend-inside b u i t maxHeight (g .0) (g .1) l us (brought-inside v) (g .2) .within),
+      omega (arith, descend-inside c u j t maxHeight (g .0) (g .1) m vs (brought-inside w) (g .3) .within),
     ))
     f a d h
 

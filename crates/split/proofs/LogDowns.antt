@@ -73,4 +73,4 @@ module _ {vs ws : List (List ℕ)} {b c : List ℕ} (v : Holds vs b) (w : Holds 
   down-log x h t lv lw le n e =
       let a : Answers x h t = rw e (down-answers x h lv lw le n) in
       let d = down-descends b c (offset vs x) (offset ws x) x h t (a .0) (a .1) (a .2) (a .3) (a .4) in
-      cc (a .4, d .2, d .3, descend-log v x h t lv le (d .0) (d .1), descend-log w x h t lw le (d .0) (d .1))
+      cc (a .4, d .2, d .3, descend-log v t x h (d .0) (d .1) lv le, descend-log w t x h (d .0) (d .1) lw le)

@@ -22,8 +22,9 @@ use Rattle.slate.proofs.Clashes.{tops-values}
 use Rattle.slate.proofs.Comparisons.{compared-differ, compared-whole}
 use Rattle.slate.proofs.Differences.{leaf-differs, leaf-first, leaf-under}
 use Rattle.entry.proofs.Claimed.{opening-counts}
-use Rattle.entry.proofs.LogDescent.{descend-log, walked}
+use Rattle.entry.proofs.LogDescent.{walked}
 use Rattle.entry.proofs.LogShape.{log-opened}
+use Rattle.entry.proofs.Reached.{log-reached}
 use Rattle.entry.proofs.WholeLog.{holds-self, log-digest, log-ends}
 use Rattle.split.proofs.Brought.{Brought}
 use Rattle.split.proofs.LogDowns.{down-log}
@@ -39,9 +40,7 @@ log-brought : (vs : List (List ℕ)) (x t : ℕ) → Values vs → length vs ≡
 log-brought vs x t ok n le = record {
   opens = log-opened vs x ok n;
   high = le;
-  run =
-      descend-log (holds-self vs ok) x maxHeight t (omega arith) (omega arith)
-      (omega (arith, whole-base x maxHeight (omega (arith, ok .few)))) le;
+  run = let e : length vs - 1 ≡ x = omega arith in rw e at (log-reached vs ok t (omega arith));
 }
 
 -- ---- two logs

@@ -14,7 +14,7 @@ use Rattle.split.specs.Claims as claims
 use Rattle.split.specs.Claims.{Heals}
 use Rattle.slate.proofs.Comparisons.{common-first, common-second, common-taken}
 use Rattle.entry.proofs.Claimed.{opening-counts}
-use Rattle.entry.proofs.Unique.{cut-log}
+use Rattle.entry.proofs.FirstValues.{cut-log}
 use Rattle.entry.proofs.WholeLog.{begins-refl}
 use Rattle.ringlog.proofs.CutClaims.{cut-first}
 use Rattle.split.proofs.AnyBytes.{reads-counted}
