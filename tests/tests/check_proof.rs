@@ -1,70 +1,12 @@
 //! The library's proof check: yes for the proofs of document 01's trees, no for everything else,
 //! and on any numbers and bytes what the model answers.
 
+use ringlog_tests::claims::Claim;
 use ringlog_tests::logs::{self, LONG, MASKS};
-use ringlog_tests::model::inclusion::{fold, hops};
-use ringlog_tests::model::tree::{leaf_digest, node_digest, top, Digest};
+use ringlog_tests::model::tree::leaf_digest;
 use ringlog_tests::model::{item, Log};
 use ringlog_tests::random::Random;
-use ringlog_tests::{model, refused, ringlog};
-
-/// What is claimed: that this is value i of n under this root, by this proof.
-#[derive(Clone, Debug)]
-struct Claim {
-    n: usize,
-    i: usize,
-    item: Vec<u8>,
-    proof: Vec<u8>,
-    root: Vec<u8>,
-}
-
-impl Claim {
-    /// What holds of value i of a log, from the tree of its values.
-    fn of(log: &mut Log, i: usize) -> Self {
-        Claim {
-            n: log.count(),
-            i,
-            item: log.value(i).to_vec(),
-            proof: log.path(i).concat(),
-            root: log.root().to_vec(),
-        }
-    }
-
-    /// A claim on random siblings, with the root that they fold to.
-    fn folded(n: usize, i: usize, random: &mut Random) -> Self {
-        let item = logs::value(random);
-        let siblings: Vec<Digest> = (0..hops(n, i)).map(|_| random.digest()).collect();
-        Claim {
-            n,
-            i,
-            root: fold(n, i, &item, &siblings).to_vec(),
-            proof: siblings.concat(),
-            item,
-        }
-    }
-
-    /// Whether the library says yes, as the model does.
-    fn holds(&self) -> bool {
-        let Claim {
-            n,
-            i,
-            item,
-            proof,
-            root,
-        } = self;
-        let answer = ringlog::check_proof(*n, *i, item, proof, root);
-        let expected = model::check_proof(*n, *i, item, proof, root);
-        assert_eq!(answer, expected, "{self:02x?}");
-        answer
-    }
-
-    /// Whether the library says yes when this is changed.
-    fn holds_with(&self, change: impl Fn(&mut Claim)) -> bool {
-        let mut claim = self.clone();
-        change(&mut claim);
-        claim.holds()
-    }
-}
+use ringlog_tests::{refused, ringlog};
 
 /// The claims of every value of logs of some lengths.
 fn claims(counts: impl IntoIterator<Item = usize>, random: &mut Random) -> Vec<Claim> {
@@ -107,7 +49,8 @@ fn whatever_folds_to_the_root_is_accepted_for_every_n_up_to_4096() {
     let mut random = Random::new(3);
     for n in 1..=4_096 {
         for i in [1, n, 1 + random.up_to(n - 1), 1 + random.up_to(n - 1)] {
-            let claim = Claim::folded(n, i, &mut random);
+            let item = logs::value(&mut random);
+            let claim = Claim::folded(n, i, item, &mut random);
             assert!(claim.holds(), "{claim:02x?}");
             let bent = claim.holds_with(|claim| claim.root[n % 32] ^= 0x10);
             assert!(!bent, "{claim:02x?}");
@@ -174,13 +117,8 @@ fn a_longer_proof_is_refused_though_all_of_it_folds_to_the_root() {
         for i in 1..=n {
             let mut claim = Claim::of(&mut log, i);
             let sibling = random.digest();
-            let root: Digest = claim.root[..].try_into().expect("32 bytes");
-            let h = top(n) + 1;
             claim.proof.extend(sibling);
-            for above in [
-                node_digest(h, &root, &sibling),
-                node_digest(h, &sibling, &root),
-            ] {
+            for above in claim.roots_above(&sibling) {
                 let more = claim.holds_with(|claim| claim.root = above.to_vec());
                 assert!(!more, "{i} of {n}");
             }
@@ -284,21 +222,14 @@ fn what_is_no_value_item_is_refused_though_it_folds_to_the_root() {
     let mut random = Random::new(12);
     for item in refused::no_values() {
         for (n, i) in [(1, 1), (2, 1), (7, 5), (4_096, 4_096)] {
-            let siblings: Vec<_> = (0..hops(n, i)).map(|_| random.digest()).collect();
-            let claim = Claim {
-                n,
-                i,
-                root: fold(n, i, &item, &siblings).to_vec(),
-                proof: siblings.concat(),
-                item: item.clone(),
-            };
+            let claim = Claim::folded(n, i, item.clone(), &mut random);
             assert!(!claim.holds(), "{claim:02x?}");
         }
     }
     for kind in item::VALUES {
-        let mut claim = Claim::folded(1, 1, &mut random);
-        claim.item = logs::value_of(kind, &mut random);
-        claim.root = leaf_digest(&claim.item).to_vec();
+        let item = logs::value_of(kind, &mut random);
+        let claim = Claim::folded(1, 1, item, &mut random);
+        assert_eq!(claim.root, leaf_digest(&claim.item));
         assert!(claim.holds(), "{claim:02x?}");
     }
 }
@@ -309,7 +240,8 @@ fn more_than_4096_values_are_refused_though_the_path_folds_to_the_root() {
     let mut random = Random::new(13);
     for n in [4_096, 4_097, 4_098, 5_000, 8_191, 8_192, 8_193, 1 << 20] {
         for i in [1, 2, 4_096, 4_097, n].into_iter().filter(|&i| i <= n) {
-            let claim = Claim::folded(n, i, &mut random);
+            let item = logs::value(&mut random);
+            let claim = Claim::folded(n, i, item, &mut random);
             assert_eq!(claim.holds(), n == 4_096, "{claim:02x?}");
         }
     }
@@ -414,7 +346,8 @@ fn random_claims_that_are_bent_or_not_get_what_the_model_gives() {
     for round in 0..20_000 {
         let n = 1 + random.up_to(if round % 2 == 0 { 20 } else { 4_095 });
         let i = 1 + random.up_to(n - 1);
-        let mut claim = Claim::folded(n, i, &mut random);
+        let item = logs::value(&mut random);
+        let mut claim = Claim::folded(n, i, item, &mut random);
         let at = random.up_to(31);
         match random.up_to(11) {
             0 => claim.n = 1 + random.up_to(4_099),

@@ -1,8 +1,7 @@
 //! The generator: the case of each number of a seed.
 
-use super::claim::Claim;
 use super::lent::{buffer, item, length_near, near, root};
-use super::{log, pair, Call, Case};
+use super::{claim, log, pair, Call, Case};
 use crate::model::entry::MOST;
 use crate::model::inclusion::hops;
 use crate::random::Random;
@@ -90,7 +89,7 @@ fn proof(random: &mut Random) -> Lent {
 }
 
 fn check_proof(random: &mut Random) -> Lent {
-    let claim = Claim::any(random);
+    let claim = claim::any(random);
     let lent = vec![claim.item, claim.proof, claim.root];
     (lent, vec![claim.n, claim.i])
 }
