@@ -5,6 +5,16 @@ use crate::model::search::{Found, Refusal, Side};
 use crate::ringlog::{Count, Digest, Extent, Part, Piece, Split};
 use std::ops::Range;
 
+/// The answer of a call that counts bytes.
+pub fn done(bytes: usize) -> Count {
+    Ok(bytes).into()
+}
+
+/// The refusal of a call that counts bytes.
+pub fn refusal(number: u32) -> Count {
+    Err(number).into()
+}
+
 /// A digest or a refusal, as the library answers it.
 impl From<Result<[u8; 32], u32>> for Digest {
     fn from(answer: Result<[u8; 32], u32>) -> Self {

@@ -1,30 +1,20 @@
 //! The library's append against the model: every answer, and every byte of the buffer afterwards.
 
+use ringlog_tests::answers::{done, refusal};
 use ringlog_tests::logs::{self, LONGEST_ENTRY, LONGEST_LOG, MASKS};
+use ringlog_tests::memory::Memory;
 use ringlog_tests::model::{item, Log};
 use ringlog_tests::random::Random;
 use ringlog_tests::ringlog::Count;
 use ringlog_tests::{model, pages, refused, ringlog};
 
-const AROUND: usize = 64;
-
-fn done(used: usize) -> Count {
-    Ok(used).into()
-}
-
-fn refusal(number: u32) -> Count {
-    Err(number).into()
-}
-
 /// Appends in the buffer, which has other bytes around it. The answer and all these bytes are held
 /// to the model's.
 fn append(buffer: &mut [u8], used: usize, item: &[u8], case: &str) -> Count {
-    let around = [0x5a; AROUND];
-    let inside = AROUND..AROUND + buffer.len();
-    let mut memory = [&around, &*buffer, &around].concat();
+    let mut memory = Memory::among(0x5a, buffer);
     let mut expected = memory.clone();
-    let answer = ringlog::append(&mut memory[inside.clone()], used, item);
-    let expected_answer = model::append(&mut expected[inside.clone()], used, item);
+    let answer = ringlog::append(memory.lent_mut(), used, item);
+    let expected_answer = model::append(expected.lent_mut(), used, item);
     let shown = || {
         let log = &buffer[..used.min(buffer.len())];
         let last = &log[log.len().saturating_sub(LONGEST_ENTRY)..];
@@ -32,11 +22,10 @@ fn append(buffer: &mut [u8], used: usize, item: &[u8], case: &str) -> Count {
         format!("{case}: {item:02x?} at {used} of {len} bytes, behind {last:02x?}")
     };
     assert_eq!(answer, expected_answer.into(), "{}", shown());
-    if let Some(at) = (0..memory.len()).find(|&at| memory[at] != expected[at]) {
-        let place = at as isize - AROUND as isize;
+    if let Some(place) = memory.other_byte(&expected) {
         panic!("byte {place} is not the model's; {}", shown());
     }
-    buffer.copy_from_slice(&memory[inside]);
+    buffer.copy_from_slice(memory.lent());
     answer
 }
 

@@ -2,6 +2,7 @@
 //! tear an append, every single bent byte, and bytes that are no log.
 
 use ringlog_tests::logs::{self, LONGEST_LOG, MASKS};
+use ringlog_tests::memory::lend_beginnings;
 use ringlog_tests::model::Log;
 use ringlog_tests::random::Random;
 use ringlog_tests::{model, refused, ringlog};
@@ -248,15 +249,10 @@ fn the_end_of_another_log_counts_only_behind_the_same_values() {
 fn the_audit_changes_no_byte_and_looks_at_none_around() {
     let mut random = Random::new(14);
     let log = logs::log(9, &mut random);
+    lend_beginnings(log.bytes(), &[0x00, 0x10, 0xff], |log, case| {
+        audit(log, case);
+    });
     for len in 0..=log.bytes().len() {
-        for around in [0x00, 0x10, 0xff] {
-            let mut memory = vec![around; 64 + len + 64];
-            memory[64..64 + len].copy_from_slice(&log.bytes()[..len]);
-            let before = memory.clone();
-            let case = || format!("{len} bytes among {around:#04x}");
-            audit(&memory[64..64 + len], case);
-            assert!(memory == before, "{}", case());
-        }
         // The rest of the log is behind it.
         audit(&log.bytes()[..len], || format!("{len} bytes"));
     }

@@ -1,33 +1,23 @@
 //! The library's cut: of a log, the end of entry d as document 01 writes it; of any bytes, what the
 //! model answers. No byte is touched.
 
+use ringlog_tests::answers::{done, refusal};
 use ringlog_tests::forged::{self, Forged};
 use ringlog_tests::links::{self, MET_OF_EIGHT, RUNNING_OUT};
 use ringlog_tests::logs::{self, LONG, MASKS};
+use ringlog_tests::memory::Memory;
 use ringlog_tests::model::{item, Log};
 use ringlog_tests::random::Random;
 use ringlog_tests::refused::{self, FAR_ABOVE};
 use ringlog_tests::ringlog::Count;
 use ringlog_tests::{model, pages, ringlog};
 
-const AROUND: usize = 64;
-
-fn done(end: usize) -> Count {
-    Ok(end).into()
-}
-
-fn refusal(number: u32) -> Count {
-    Err(number).into()
-}
-
 /// Cuts in the buffer, which has other bytes around it. The answer is held to the model's, and all
 /// these bytes to what they were.
 fn cut(buffer: &[u8], used: usize, d: usize, case: impl Fn() -> String) -> Count {
-    let around = [0x5a; AROUND];
-    let mut memory = [&around, buffer, &around].concat();
+    let mut memory = Memory::among(0x5a, buffer);
     let before = memory.clone();
-    let inside = AROUND..AROUND + buffer.len();
-    let answer = ringlog::cut(&mut memory[inside], used, d);
+    let answer = ringlog::cut(memory.lent_mut(), used, d);
     let expected = model::cut(buffer, used, d).into();
     assert_eq!(answer, expected, "cut to {d} at {used}: {}", case());
     assert!(memory == before, "cut to {d} at {used}: {}", case());

@@ -1,9 +1,11 @@
 //! The library's proof: of a log, the path of the tree that its values have; of any bytes, what the
 //! model answers. Every byte of the output afterwards is held to the model's.
 
+use ringlog_tests::answers::{done, refusal};
 use ringlog_tests::forged::{self, Forged};
 use ringlog_tests::links::{self, RUNNING_OUT};
 use ringlog_tests::logs::{self, LONG, MASKS};
+use ringlog_tests::memory::{lend_beginnings, Memory};
 use ringlog_tests::model::inclusion::hops;
 use ringlog_tests::model::{item, Log};
 use ringlog_tests::random::Random;
@@ -11,34 +13,22 @@ use ringlog_tests::refused::{self, FAR_ABOVE};
 use ringlog_tests::ringlog::Count;
 use ringlog_tests::{model, pages, ringlog};
 
-const AROUND: usize = 64;
-
 /// The length of the longest proof: 12 siblings.
 const LONGEST_PROOF: usize = 384;
-
-fn done(bytes: usize) -> Count {
-    Ok(bytes).into()
-}
-
-fn refusal(number: u32) -> Count {
-    Err(number).into()
-}
 
 /// Proves value i into an output of so many bytes, which has other bytes around it. The answer and
 /// all these bytes are held to the model's; what was written is given back.
 fn proof(log: &[u8], i: usize, len: usize, case: impl Fn() -> String) -> (Count, Vec<u8>) {
-    let inside = AROUND..AROUND + len;
-    let mut memory: Vec<u8> = (0..AROUND + len + AROUND).map(|at| at as u8).collect();
+    let mut memory = Memory::counting(len);
     let mut expected = memory.clone();
-    let answer = ringlog::proof(log, i, &mut memory[inside.clone()]);
-    let expected_answer = model::proof(log, i, &mut expected[inside.clone()]);
+    let answer = ringlog::proof(log, i, memory.lent_mut());
+    let expected_answer = model::proof(log, i, expected.lent_mut());
     let shown = || format!("proof of {i} into {len} bytes: {}", case());
     assert_eq!(answer, expected_answer.into(), "{}", shown());
-    if let Some(at) = (0..memory.len()).find(|&at| memory[at] != expected[at]) {
-        let place = at as isize - AROUND as isize;
+    if let Some(place) = memory.other_byte(&expected) {
         panic!("byte {place} is not the model's; {}", shown());
     }
-    (answer, memory[inside][..answer.value as usize].to_vec())
+    (answer, memory.lent()[..answer.value as usize].to_vec())
 }
 
 /// Holds the proof of value i of the log to the path of the tree, and to the checker.
@@ -439,16 +429,9 @@ fn whole_torn_bent_and_forged_logs_give_what_the_model_gives() {
 fn a_proof_changes_no_byte_of_the_log_and_looks_at_none_around() {
     let mut random = Random::new(24);
     let log = logs::log(9, &mut random);
-    for len in 0..=log.bytes().len() {
-        for around in [0x00, 0x30, 0xff] {
-            let mut memory = vec![around; 64 + len + 64];
-            memory[64..64 + len].copy_from_slice(&log.bytes()[..len]);
-            let before = memory.clone();
-            for i in 0..=10 {
-                let case = || format!("{len} bytes among {around:#04x}");
-                proof(&memory[64..64 + len], i, 128, case);
-            }
-            assert!(memory == before, "{len} bytes among {around:#04x}");
+    lend_beginnings(log.bytes(), &[0x00, 0x30, 0xff], |log, case| {
+        for i in 0..=10 {
+            proof(log, i, 128, case);
         }
-    }
+    });
 }

@@ -2,6 +2,7 @@
 //! that the model finds stored, or its refusal.
 
 use ringlog_tests::logs::{self, MASKS};
+use ringlog_tests::memory::lend_beginnings;
 use ringlog_tests::model::Log;
 use ringlog_tests::random::Random;
 use ringlog_tests::ringlog::Digest;
@@ -173,14 +174,7 @@ fn a_last_entry_opens_below_2_to_the_32_and_not_from_there_on() {
 fn the_root_changes_no_byte_and_looks_at_none_around() {
     let mut random = Random::new(11);
     let log = logs::log(9, &mut random);
-    for len in 0..=log.bytes().len() {
-        for around in [0x00, 0x30, 0xff] {
-            let mut memory = vec![around; 64 + len + 64];
-            memory[64..64 + len].copy_from_slice(&log.bytes()[..len]);
-            let before = memory.clone();
-            let case = || format!("{len} bytes among {around:#04x}");
-            root(&memory[64..64 + len], case);
-            assert!(memory == before, "{}", case());
-        }
-    }
+    lend_beginnings(log.bytes(), &[0x00, 0x30, 0xff], |log, case| {
+        root(log, case);
+    });
 }

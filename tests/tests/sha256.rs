@@ -1,5 +1,6 @@
 //! The library's SHA-256 against the model, and both against digests from outside this project.
 
+use ringlog_tests::memory::Memory;
 use ringlog_tests::random::Random;
 use ringlog_tests::ringlog::Digest;
 use ringlog_tests::{model, pages, ringlog};
@@ -233,18 +234,16 @@ fn a_message_at_each_offset_from_an_aligned_address_agrees_with_the_model() {
 
 #[test]
 fn the_bytes_around_a_message_do_not_matter_and_no_byte_is_changed() {
-    const AROUND: usize = 64;
     let mut random = Random::new(9);
     for len in 0..=200 {
         let message = random.bytes(len);
         let expected = accepted(model::sha256(&message));
         for poison in [0x00, 0x01, 0x80, 0xff] {
-            let mut buffer = vec![poison; AROUND + len + AROUND];
-            buffer[AROUND..AROUND + len].copy_from_slice(&message);
-            let before = buffer.clone();
-            let result = ringlog::sha256(&buffer[AROUND..AROUND + len]);
+            let memory = Memory::among(poison, &message);
+            let before = memory.clone();
+            let result = ringlog::sha256(memory.lent());
             assert_eq!(result, expected, "{len} bytes among {poison:#04x}");
-            assert_eq!(buffer, before, "{len} bytes among {poison:#04x}");
+            assert_eq!(memory, before, "{len} bytes among {poison:#04x}");
         }
     }
 }

@@ -4,6 +4,7 @@
 use ringlog_tests::forged::{self, folded_root, Forged};
 use ringlog_tests::links::{self, RUNNING_OUT};
 use ringlog_tests::logs::{self, LONG, MASKS};
+use ringlog_tests::memory::lend_beginnings;
 use ringlog_tests::model::tree::leaf_digest;
 use ringlog_tests::model::{item, Log};
 use ringlog_tests::random::Random;
@@ -467,16 +468,9 @@ fn a_checked_value_changes_no_byte_and_looks_at_none_around() {
     let mut random = Random::new(23);
     let mut log = logs::log(9, &mut random);
     let root = log.root();
-    for len in 0..=log.bytes().len() {
-        for around in [0x00, 0x30, 0xff] {
-            let mut memory = vec![around; 64 + len + 64];
-            memory[64..64 + len].copy_from_slice(&log.bytes()[..len]);
-            let before = memory.clone();
-            for i in 0..=10 {
-                let case = || format!("{len} bytes among {around:#04x}");
-                value(&memory[64..64 + len], &root, i, case);
-            }
-            assert!(memory == before, "{len} bytes among {around:#04x}");
+    lend_beginnings(log.bytes(), &[0x00, 0x30, 0xff], |log, case| {
+        for i in 0..=10 {
+            value(log, &root, i, case);
         }
-    }
+    });
 }

@@ -2,6 +2,7 @@
 //! afterwards.
 
 use super::{Call, Case};
+use crate::memory::Memory;
 use crate::ringlog::{Count, Digest, Extent, Part, Piece, Split};
 use crate::{model, ringlog};
 
@@ -57,14 +58,11 @@ impl Answer {
     }
 }
 
-/// How many bytes stand before each lent slice, and behind it.
-const AROUND: usize = 64;
-
 /// An answer, and the memory of each lent slice afterwards, with the bytes around the slice.
 #[derive(Debug, PartialEq, Eq)]
 pub struct Done {
     pub answer: Answer,
-    memory: Vec<Vec<u8>>,
+    memory: Vec<Memory>,
 }
 
 impl Done {
@@ -79,32 +77,25 @@ impl Done {
     }
 
     fn by(case: &Case, act: fn(Call, &mut [&mut [u8]], &[usize]) -> Answer) -> Done {
-        let around = [0x5a; AROUND];
-        let surrounded = |bytes: &Vec<u8>| [&around, &bytes[..], &around].concat();
-        let mut memory: Vec<_> = case.lent.iter().map(surrounded).collect();
-        let mut lent: Vec<_> = memory
-            .iter_mut()
-            .zip(&case.lent)
-            .map(|(memory, bytes)| &mut memory[AROUND..AROUND + bytes.len()])
-            .collect();
+        let memory_of = |bytes: &Vec<u8>| Memory::among(0x5a, bytes);
+        let mut memory: Vec<_> = case.lent.iter().map(memory_of).collect();
+        let mut lent: Vec<_> = memory.iter_mut().map(Memory::lent_mut).collect();
         let answer = act(case.call, &mut lent, &case.numbers);
         Done { answer, memory }
     }
 
     /// The lent slices afterwards.
     pub fn lent(&self) -> impl Iterator<Item = &[u8]> {
-        let memory = self.memory.iter();
-        memory.map(|memory| &memory[AROUND..memory.len() - AROUND])
+        self.memory.iter().map(Memory::lent)
     }
 
     /// The first byte that is another one than expected: the number of its slice, from 0, and its
     /// place there, which is below 0 for a byte before the slice.
     pub fn other_byte(&self, expected: &Done) -> Option<(usize, isize)> {
         let pairs = self.memory.iter().zip(&expected.memory);
-        pairs.enumerate().find_map(|(slice, (got, expected))| {
-            let at = (0..got.len()).find(|&at| got[at] != expected[at])?;
-            Some((slice, at as isize - AROUND as isize))
-        })
+        pairs
+            .enumerate()
+            .find_map(|(slice, (got, expected))| Some((slice, got.other_byte(expected)?)))
     }
 }
 
