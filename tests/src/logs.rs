@@ -22,6 +22,16 @@ pub const LONG: [usize; 17] = [
     4_095,
 ];
 
+/// The bench sheet's hops: n, i and hops(n, i).
+pub const SHEET_HOPS: [(usize, usize, usize); 6] = [
+    (22, 18, 4),
+    (7, 1, 3),
+    (7, 7, 2),
+    (7, 5, 3),
+    (1, 1, 0),
+    (4_096, 1, 12),
+];
+
 /// Indexes of a log of n values: powers of two with the numbers behind them, the last ones, and some
 /// others.
 pub fn indexes(n: usize, random: &mut Random) -> Vec<usize> {
@@ -63,6 +73,13 @@ pub fn taps(count: usize, random: &mut Random) -> Log {
 pub fn tickets(count: usize, random: &mut Random) -> Log {
     let values: Vec<_> = (0..count).map(|_| value_of(TICKET, random)).collect();
     Log::of(&values)
+}
+
+/// Makes a log longer by random values, up to `count` of them.
+pub fn grow(log: &mut Log, count: usize, random: &mut Random) {
+    while log.count() < count {
+        log.push(&value(random));
+    }
 }
 
 /// An entry of this index with a random value, random digests and random left offsets below its own.

@@ -1,8 +1,11 @@
-//! What is refused: bytes that do not open, bytes that are no value item, and numbers above n.
+//! What is refused: bytes that do not open, steps to entry 1, bytes that are no value item, and numbers
+//! above n.
 
+use crate::links;
 use crate::logs::{self, forged, taps};
 use crate::model::entry::MOST;
 use crate::model::item::{body_len, four_bytes, VALUES};
+use crate::model::Log;
 use crate::random::Random;
 
 /// Bytes with a name that says what they are.
@@ -18,6 +21,22 @@ pub const FAR_ABOVE: [usize; 7] = [
     !0 << 32,
     usize::MAX,
 ];
+
+/// Bytes, what opening them is refused with, and what the steps from there to entry 1 are.
+pub type Refused = (Named, Option<u32>, Option<u32>);
+
+/// Bytes that do not open, and this log of eight values with each fault of the links to entry 1 with
+/// each, and with none.
+pub fn at_opening_or_steps(log: &Log, random: &mut Random) -> Vec<Refused> {
+    let not_opening = not_opening(random).into_iter();
+    let at_opening = not_opening.map(|bytes| (bytes, Some(6), None));
+    let mislinked = links::mislinked(log).into_iter();
+    let at_steps = mislinked.map(|mislinked| {
+        let name = format!("{:?}", mislinked.faults);
+        ((name, mislinked.forged.bytes()), None, mislinked.refusal(1))
+    });
+    at_opening.chain(at_steps).collect()
+}
 
 /// Bytes that do not open.
 pub fn not_opening(random: &mut Random) -> Vec<Named> {

@@ -31,9 +31,7 @@ fn paths_of_long_logs_are_accepted_and_every_one_of_a_full_log() {
     let mut random = Random::new(2);
     let mut log = Log::default();
     for n in LONG {
-        while log.count() < n {
-            log.push(&logs::value(&mut random));
-        }
+        logs::grow(&mut log, n, &mut random);
         for i in logs::indexes(n, &mut random) {
             assert!(Claim::of(&mut log, i).holds(), "{i} of {n}");
         }

@@ -148,16 +148,8 @@ fn what_does_not_open_is_refused_with_6_for_every_d() {
 fn the_first_refusal_in_the_order_1_6_2_and_then_steps_counts() {
     let mut random = Random::new(8);
     let log = logs::log(8, &mut random);
-    let mut logs: Vec<_> = refused::not_opening(&mut random)
-        .into_iter()
-        .map(|(name, bytes)| (name, bytes, Some(6), None))
-        .collect();
-    for mislinked in links::mislinked(&log) {
-        let name = format!("{:?}", mislinked.faults);
-        let refusal = mislinked.refusal(1);
-        logs.push((name, mislinked.forged.bytes(), None, refusal));
-    }
-    for (name, bytes, opening, steps) in logs {
+    let logs = refused::at_opening_or_steps(&log, &mut random);
+    for ((name, bytes), opening, steps) in logs {
         let buffer = [&bytes[..], &random.bytes(7)].concat();
         let (used, above) = (bytes.len(), buffer.len() + 1);
         for used in [used, above, (1 << 32) + used, usize::MAX] {

@@ -171,15 +171,7 @@ fn what_is_said_not_to_open_does_not_and_forged_entries_do() {
 
 #[test]
 fn hops_are_those_of_the_bench_sheet_and_of_every_path() {
-    let sheet = [
-        (22, 18, 4),
-        (7, 1, 3),
-        (7, 7, 2),
-        (7, 5, 3),
-        (1, 1, 0),
-        (4_096, 1, 12),
-    ];
-    for (n, i, expected) in sheet {
+    for (n, i, expected) in logs::SHEET_HOPS {
         assert_eq!(hops(n, i), expected, "hops({n}, {i})");
     }
     let mut tree = Tree::default();

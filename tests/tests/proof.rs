@@ -4,7 +4,7 @@
 use ringlog_tests::answers::{done, refusal};
 use ringlog_tests::forged::{self, Forged};
 use ringlog_tests::links::{self, RUNNING_OUT};
-use ringlog_tests::logs::{self, LONG, MASKS};
+use ringlog_tests::logs::{self, LONG, MASKS, SHEET_HOPS};
 use ringlog_tests::memory::{lend_beginnings, Memory};
 use ringlog_tests::model::inclusion::hops;
 use ringlog_tests::model::{item, Log};
@@ -68,9 +68,7 @@ fn proofs_of_long_logs_are_the_paths_of_their_trees_and_are_accepted() {
     let mut random = Random::new(2);
     let mut log = Log::default();
     for n in LONG {
-        while log.count() < n {
-            log.push(&logs::value(&mut random));
-        }
+        logs::grow(&mut log, n, &mut random);
         for i in logs::indexes(n, &mut random) {
             assert_proves(&mut log, i);
         }
@@ -93,15 +91,7 @@ fn every_proof_of_a_full_log_is_the_path_of_its_tree_and_is_accepted() {
 #[test]
 fn proofs_have_the_hops_of_the_bench_sheet() {
     let mut random = Random::new(4);
-    let sheet = [
-        (22, 18, 4),
-        (7, 1, 3),
-        (7, 7, 2),
-        (7, 5, 3),
-        (1, 1, 0),
-        (4_096, 1, 12),
-    ];
-    for (n, i, hops) in sheet {
+    for (n, i, hops) in SHEET_HOPS {
         let log = logs::taps(n, &mut random);
         let case = || format!("{n} taps");
         let (answer, _) = proof(log.bytes(), i, LONGEST_PROOF, case);
@@ -178,16 +168,8 @@ fn room_exactly_is_enough_and_a_byte_less_gives_8_and_the_rest_of_the_output_sta
 fn the_first_refusal_in_the_order_6_2_8_and_then_steps_counts_and_writes_nothing() {
     let mut random = Random::new(10);
     let log = logs::log(8, &mut random);
-    let mut logs: Vec<_> = refused::not_opening(&mut random)
-        .into_iter()
-        .map(|(name, bytes)| (name, bytes, Some(6), None))
-        .collect();
-    for mislinked in links::mislinked(&log) {
-        let name = format!("{:?}", mislinked.faults);
-        let steps = mislinked.refusal(1);
-        logs.push((name, mislinked.forged.bytes(), None, steps));
-    }
-    for (name, bytes, opening, steps) in logs {
+    let logs = refused::at_opening_or_steps(&log, &mut random);
+    for ((name, bytes), opening, steps) in logs {
         for i in [0, 1, 9, (1 << 32) + 1, usize::MAX] {
             for len in [0, 1, 32, 95, 96, 97, 128, LONGEST_PROOF] {
                 let outside = (i != 1).then_some(2);

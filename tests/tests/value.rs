@@ -64,9 +64,7 @@ fn long_logs_answer_values_at_their_edges_and_elsewhere() {
     let mut random = Random::new(2);
     let mut log = Log::default();
     for n in LONG {
-        while log.count() < n {
-            log.push(&logs::value(&mut random));
-        }
+        logs::grow(&mut log, n, &mut random);
         let root = log.root();
         for i in logs::indexes(n, &mut random) {
             let part = ringlog::value(log.bytes(), &root, i);
@@ -139,15 +137,7 @@ fn the_first_refusal_in_the_order_1_6_2_and_then_steps_and_the_fold_counts() {
     let mut random = Random::new(7);
     let mut log = logs::log(8, &mut random);
     let root = log.root();
-    let mut logs: Vec<_> = refused::not_opening(&mut random)
-        .into_iter()
-        .map(|(name, bytes)| (name, bytes, Some(6), None))
-        .collect();
-    for mislinked in links::mislinked(&log) {
-        let name = format!("{:?}", mislinked.faults);
-        let steps = mislinked.refusal(1);
-        logs.push((name, mislinked.forged.bytes(), None, steps));
-    }
+    let logs = refused::at_opening_or_steps(&log, &mut random);
     let folding = [
         root.to_vec(),
         root[..31].to_vec(),
@@ -158,7 +148,7 @@ fn the_first_refusal_in_the_order_1_6_2_and_then_steps_and_the_fold_counts() {
     let folding = folding.into_iter().map(|root| (root, None));
     let not_folding = not_folding.into_iter().map(|root| (root, Some(7)));
     let roots: Vec<_> = folding.chain(not_folding).collect();
-    for (name, bytes, opening, steps) in logs {
+    for ((name, bytes), opening, steps) in logs {
         for (root, fold) in &roots {
             for i in [0, 1, 9, (1 << 32) + 1, usize::MAX] {
                 let no_root = (root.len() != 32).then_some(1);
