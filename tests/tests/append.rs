@@ -1,12 +1,13 @@
 //! The library's append against the model: every answer, and every byte of the buffer afterwards.
 
 use ringlog_tests::answers::{done, refusal};
+use ringlog_tests::far::{Far, LIMIT};
 use ringlog_tests::logs::{self, LONGEST_ENTRY, LONGEST_LOG, MASKS};
 use ringlog_tests::memory::Memory;
 use ringlog_tests::model::{item, Log};
 use ringlog_tests::random::Random;
 use ringlog_tests::ringlog::Count;
-use ringlog_tests::{model, pages, refused, ringlog};
+use ringlog_tests::{model, refused, ringlog};
 
 /// Appends in the buffer, which has other bytes around it. The answer and all these bytes are held
 /// to the model's.
@@ -302,28 +303,25 @@ fn a_left_offset_of_51_opens_and_of_52_does_not_behind_a_tap() {
 /// does not open.
 #[test]
 fn a_last_entry_opens_below_2_to_the_32_and_not_from_there_on() {
-    const LIMIT: usize = 1 << 32;
     const WINDOW: usize = LIMIT - 4_096;
     let mut random = Random::new(13);
-    let buffer = pages::zeros_to_write(LIMIT + 4_096);
-    let last = logs::forged(2, 1, &mut random).split_off(1);
+    let mut far = Far::forged(&mut random);
     let value = logs::value(&mut random);
     for (offset, number) in [(LIMIT - 1, 0), (LIMIT, 6), (LIMIT + 1, 6)] {
-        let used = offset + last.len();
-        let renew = |buffer: &mut [u8]| {
-            buffer[WINDOW..].fill(0);
-            buffer[offset..used].copy_from_slice(&last);
+        let renew = |far: &mut Far| {
+            far.buffer[WINDOW..].fill(0);
+            far.put(offset)
         };
-        renew(buffer);
-        let expected_answer = model::append(buffer, used, &value);
-        let expected = buffer[WINDOW..].to_vec();
-        renew(buffer);
-        let answer = ringlog::append(buffer, used, &value);
+        let used = renew(&mut far);
+        let expected_answer = model::append(far.buffer, used, &value);
+        let expected = far.buffer[WINDOW..].to_vec();
+        renew(&mut far);
+        let answer = ringlog::append(far.buffer, used, &value);
         assert_eq!(answer, expected_answer.into(), "a last entry at {offset}");
         assert_eq!(answer.number, number, "a last entry at {offset}");
-        assert!(buffer[WINDOW..] == expected[..], "a last entry at {offset}");
+        assert!(far.buffer[WINDOW..] == expected, "a last entry at {offset}");
         if number == 0 {
-            let again = ringlog::append(buffer, answer.value as usize, &value);
+            let again = ringlog::append(far.buffer, answer.value as usize, &value);
             assert_eq!(again, refusal(6), "behind the entry written at {used}");
         }
     }

@@ -2,6 +2,7 @@
 //! model answers. No byte is touched.
 
 use ringlog_tests::answers::{done, refusal};
+use ringlog_tests::far::{Far, LIMIT};
 use ringlog_tests::forged::{self, Forged};
 use ringlog_tests::links::{self, MET_OF_EIGHT, RUNNING_OUT};
 use ringlog_tests::logs::{self, LONG, MASKS};
@@ -10,7 +11,7 @@ use ringlog_tests::model::{item, Log};
 use ringlog_tests::random::Random;
 use ringlog_tests::refused::{self, FAR_ABOVE};
 use ringlog_tests::ringlog::Count;
-use ringlog_tests::{model, pages, ringlog};
+use ringlog_tests::{model, ringlog};
 
 /// Cuts in the buffer, which has other bytes around it. The answer is held to the model's, and all
 /// these bytes to what they were.
@@ -360,15 +361,11 @@ fn a_log_of_invented_digests_is_cut_wherever_its_links_hold() {
 
 #[test]
 fn the_end_of_an_entry_may_lie_above_2_to_the_32() {
-    const LIMIT: usize = 1 << 32;
-    let mut random = Random::new(21);
-    let buffer = pages::zeros_to_write(LIMIT + 4_096);
-    let last = logs::forged(2, 1, &mut random).split_off(1);
+    let mut far = Far::forged(&mut Random::new(21));
     for (offset, number) in [(LIMIT - 1, 0), (LIMIT, 6), (LIMIT + 1, 6)] {
-        let used = offset + last.len();
-        buffer[offset..used].copy_from_slice(&last);
-        let answer = ringlog::cut(buffer, used, 2);
-        assert_eq!(answer, model::cut(buffer, used, 2).into(), "{offset}");
+        let used = far.put(offset);
+        let answer = ringlog::cut(far.buffer, used, 2);
+        assert_eq!(answer, model::cut(far.buffer, used, 2).into(), "{offset}");
         assert_eq!(answer.number, number, "{offset}");
         assert!(number != 0 || answer == done(used), "{offset}");
     }

@@ -2,6 +2,7 @@
 //! model answers. Every byte of the output afterwards is held to the model's.
 
 use ringlog_tests::answers::{done, refusal};
+use ringlog_tests::far::{Far, LIMIT};
 use ringlog_tests::forged::{self, Forged};
 use ringlog_tests::links::{self, RUNNING_OUT};
 use ringlog_tests::logs::{self, LONG, MASKS, SHEET_HOPS};
@@ -11,7 +12,7 @@ use ringlog_tests::model::{item, Log};
 use ringlog_tests::random::Random;
 use ringlog_tests::refused::{self, FAR_ABOVE};
 use ringlog_tests::ringlog::Count;
-use ringlog_tests::{model, pages, ringlog};
+use ringlog_tests::{model, ringlog};
 
 /// The length of the longest proof: 12 siblings.
 const LONGEST_PROOF: usize = 384;
@@ -375,15 +376,11 @@ fn a_left_offset_of_51_is_a_6_of_the_step_and_of_52_one_of_opening() {
 
 #[test]
 fn a_last_entry_just_below_2_to_the_32_proves_and_not_from_there_on() {
-    const LIMIT: usize = 1 << 32;
-    let mut random = Random::new(22);
-    let buffer = pages::zeros_to_write(LIMIT + 4_096);
-    let last = logs::forged(2, 1, &mut random).split_off(1);
+    let mut far = Far::forged(&mut Random::new(22));
     for (offset, expected) in [(LIMIT - 1, done(32)), (LIMIT, refusal(6))] {
-        let end = offset + last.len();
-        buffer[offset..end].copy_from_slice(&last);
+        let end = far.put(offset);
         let case = || format!("a last entry at {offset}");
-        let (answer, _) = proof(&buffer[..end], 2, 32, case);
+        let (answer, _) = proof(&far.buffer[..end], 2, 32, case);
         assert_eq!(answer, expected, "a last entry at {offset}");
     }
 }

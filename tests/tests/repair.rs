@@ -1,6 +1,7 @@
 //! The library's repair piece: of two logs, what the other one lacks to be the donor; of any bytes,
 //! what the model answers.
 
+use ringlog_tests::far::{Far, LIMIT};
 use ringlog_tests::forged::Forged;
 use ringlog_tests::links::{self, RUNNING_OUT};
 use ringlog_tests::logs::{self, LONG, MASKS};
@@ -12,7 +13,7 @@ use ringlog_tests::pairs::{self, parted_at, values, with_others};
 use ringlog_tests::random::Random;
 use ringlog_tests::refused;
 use ringlog_tests::ringlog::Piece;
-use ringlog_tests::{model, pages, ringlog};
+use ringlog_tests::{model, ringlog};
 
 const NONE: Piece = Piece {
     donor: 0,
@@ -382,17 +383,13 @@ fn the_two_logs_may_be_the_same_bytes_or_overlap() {
 /// Entry 2 of the first log begins just below 2^32, so that it ends above.
 #[test]
 fn a_piece_may_begin_above_2_to_the_32_and_be_longer() {
-    const LIMIT: usize = 1 << 32;
     let mut random = Random::new(14);
     let list = values(2, &mut random);
     let log = Log::of(&list);
     let other = |i: usize, random: &mut Random| Log::of(&with_others(&list, &[i], random));
-    let buffer = pages::zeros_to_write(LIMIT + 4_096);
-    let (first, second) = log.bytes().split_at(log.end(1));
-    buffer[..first.len()].copy_from_slice(first);
-    let end = LIMIT - 1 + second.len();
-    buffer[LIMIT - 1..end].copy_from_slice(second);
-    let far = &buffer[..end];
+    let mut far = Far::of(&log);
+    let end = far.put(LIMIT - 1);
+    let (first, far) = (log.beginning(1), &far.buffer[..end]);
     let case = || "a last entry just below 2^32".to_string();
     assert_eq!(repair(far, log.bytes(), case), part(Side::First, end, end));
     let piece = repair(first, far, case);

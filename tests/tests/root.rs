@@ -1,12 +1,13 @@
 //! The library's root: of a log, what the model works out from its values; of any bytes, the digest
 //! that the model finds stored, or its refusal.
 
+use ringlog_tests::far::{Far, LIMIT};
 use ringlog_tests::logs::{self, MASKS};
 use ringlog_tests::memory::lend_beginnings;
 use ringlog_tests::model::Log;
 use ringlog_tests::random::Random;
 use ringlog_tests::ringlog::Digest;
-use ringlog_tests::{model, pages, refused, ringlog};
+use ringlog_tests::{model, refused, ringlog};
 
 const REFUSED: Digest = Digest {
     number: 6,
@@ -158,14 +159,10 @@ fn random_bytes_give_what_the_model_gives() {
 
 #[test]
 fn a_last_entry_opens_below_2_to_the_32_and_not_from_there_on() {
-    const LIMIT: usize = 1 << 32;
-    let mut random = Random::new(10);
-    let buffer = pages::zeros_to_write(LIMIT + 4_096);
-    let last = logs::forged(2, 1, &mut random).split_off(1);
+    let mut far = Far::forged(&mut Random::new(10));
     for (offset, number) in [(LIMIT - 1, 0), (LIMIT, 6), (LIMIT + 1, 6)] {
-        let end = offset + last.len();
-        buffer[offset..end].copy_from_slice(&last);
-        let answer = root(&buffer[..end], || format!("a last entry at {offset}"));
+        let end = far.put(offset);
+        let answer = root(&far.buffer[..end], || format!("a last entry at {offset}"));
         assert_eq!(answer.number, number, "a last entry at {offset}");
     }
 }

@@ -1,13 +1,13 @@
 //! The library's search: of two logs, what the comparison value by value answers. It goes by the
 //! digests that are stored, from entry n of both on.
 
+use ringlog_tests::far::{Far, LIMIT};
 use ringlog_tests::forged::Forged;
 use ringlog_tests::logs::{self, LONG};
 use ringlog_tests::memory::lend_beginnings_beside;
 use ringlog_tests::model::search::Side;
 use ringlog_tests::model::tree::top;
 use ringlog_tests::model::{self, item, Log};
-use ringlog_tests::pages;
 use ringlog_tests::pairs::{self, parted_at, values, with_others};
 use ringlog_tests::random::Random;
 use ringlog_tests::ringlog::{self, Split};
@@ -267,25 +267,20 @@ fn the_two_logs_may_be_the_same_bytes_or_overlap() {
 
 #[test]
 fn a_last_entry_just_below_2_to_the_32_is_searched_and_not_from_there_on() {
-    const LIMIT: usize = 1 << 32;
     let mut random = Random::new(11);
     let list = values(2, &mut random);
     let log = Log::of(&list);
     let other = Log::of(&with_others(&list, &[1], &mut random));
-    let buffer = pages::zeros_to_write(LIMIT + 4_096);
-    let (first, second) = log.bytes().split_at(log.end(1));
-    buffer[..first.len()].copy_from_slice(first);
+    let mut far = Far::of(&log);
     for (offset, opens) in [(LIMIT - 1, true), (LIMIT, false), (LIMIT + 1, false)] {
-        let end = offset + second.len();
-        buffer[offset..end].copy_from_slice(second);
-        let far = &buffer[..end];
+        let end = far.put(offset);
         let case = || format!("a last entry at {offset}");
         for (near, expected) in [
             (log.bytes(), agree(2, 2)),
-            (first, agree(2, 1)),
+            (log.beginning(1), agree(2, 1)),
             (other.bytes(), differ_at(2, 2, 1)),
         ] {
-            let split = search(far, near, case);
+            let split = search(&far.buffer[..end], near, case);
             let refused = refusal(Side::First, 6);
             assert_eq!(split, if opens { expected } else { refused }, "{offset}");
         }

@@ -1,6 +1,7 @@
 //! The library's checked value: of a log and its root, value i where it stands in the log; of any
 //! bytes and any root, what the model answers.
 
+use ringlog_tests::far::{Far, LIMIT};
 use ringlog_tests::forged::{self, folded_root, Forged};
 use ringlog_tests::links::{self, RUNNING_OUT};
 use ringlog_tests::logs::{self, LONG, MASKS};
@@ -10,7 +11,7 @@ use ringlog_tests::model::{item, Log};
 use ringlog_tests::random::Random;
 use ringlog_tests::refused::{self, FAR_ABOVE};
 use ringlog_tests::ringlog::Part;
-use ringlog_tests::{model, pages, ringlog};
+use ringlog_tests::{model, ringlog};
 
 /// Lengths of what is no root.
 const NOT_32: [usize; 7] = [0, 1, 31, 33, 63, 64, 288];
@@ -416,14 +417,10 @@ fn the_root_may_be_lent_from_the_log_itself() {
 
 #[test]
 fn a_part_may_begin_above_2_to_the_32() {
-    const LIMIT: usize = 1 << 32;
-    let mut random = Random::new(21);
-    let buffer = pages::zeros_to_write(LIMIT + 4_096);
-    let last = logs::forged(2, 1, &mut random).split_off(1);
+    let mut far = Far::forged(&mut Random::new(21));
     for (offset, number) in [(LIMIT - 1, 0), (LIMIT, 6), (LIMIT + 1, 6)] {
-        let end = offset + last.len();
-        buffer[offset..end].copy_from_slice(&last);
-        let log = &buffer[..end];
+        let end = far.put(offset);
+        let log = &far.buffer[..end];
         let root = folded_root(log, 2).unwrap_or([0; 32]);
         let part = value(log, &root, 2, || format!("a last entry at {offset}"));
         assert_eq!(part.number, number, "a last entry at {offset}");
