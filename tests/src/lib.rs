@@ -1,8 +1,8 @@
 //! What the tests and the benchmark stand on: the model that the library is held to, the library
 //! behind safe wrappers and the answers to expect of it, the plain Rust that it is measured beside,
-//! values and logs to try, forged logs and their links, very long logs, pairs of logs and what a
-//! search answers of them, claims for a proof check, what is refused, random cases of all calls,
-//! memory to lend, repeatable random bytes, very long messages, and a clock.
+//! values and logs to try, bent bytes, forged logs and their links, very long logs, pairs of logs and
+//! what a search answers of them, claims for a proof check, what is refused, random cases of all
+//! calls, memory to lend, repeatable random bytes, very long messages, and a clock.
 
 /// Document 01 in plain Rust, made to be seen right and not to be fast.
 pub mod model {
@@ -47,6 +47,7 @@ pub mod cases {
 }
 
 pub mod answers;
+pub mod bent;
 pub mod claims;
 pub mod far;
 pub mod forged;

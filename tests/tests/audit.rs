@@ -1,7 +1,8 @@
 //! The library's audit against the model's, which tries the log of the values found: every way to
 //! tear an append, every single bent byte, and bytes that are no log.
 
-use ringlog_tests::logs::{self, LONGEST_LOG, MASKS};
+use ringlog_tests::bent::each_bent;
+use ringlog_tests::logs::{self, LONGEST_LOG};
 use ringlog_tests::memory::lend_beginnings;
 use ringlog_tests::model::Log;
 use ringlog_tests::random::Random;
@@ -115,17 +116,11 @@ fn every_single_bent_byte_ends_the_log_before_its_entry() {
     let mut random = Random::new(7);
     for n in 1..=12 {
         let log = logs::log(n, &mut random);
-        let mut bytes = log.bytes().to_vec();
-        for at in 0..bytes.len() {
-            let whole = (1..=n).take_while(|&i| log.end(i) <= at).count();
-            for mask in MASKS {
-                let case = || format!("{n} values, byte {at} bent with {mask:#04x}");
-                bytes[at] ^= mask;
-                let answer = audit(&bytes, case);
-                assert_eq!(answer, first(&log, whole), "{}", case());
-                bytes[at] ^= mask;
-            }
-        }
+        each_bent(log.bytes(), |bytes, bent| {
+            let whole = (1..=n).take_while(|&i| log.end(i) <= bent.at).count();
+            let case = || format!("{n} values, {bent}");
+            assert_eq!(audit(bytes, case), first(&log, whole), "{}", case());
+        });
     }
 }
 

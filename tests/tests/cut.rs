@@ -2,10 +2,11 @@
 //! model answers. No byte is touched.
 
 use ringlog_tests::answers::{done, refusal};
+use ringlog_tests::bent::each_bent;
 use ringlog_tests::far::{Far, LIMIT};
 use ringlog_tests::forged::{self, Forged};
 use ringlog_tests::links::{self, MET_OF_EIGHT, RUNNING_OUT};
-use ringlog_tests::logs::{self, LONG, MASKS};
+use ringlog_tests::logs::{self, LONG};
 use ringlog_tests::memory::Memory;
 use ringlog_tests::model::{item, Log};
 use ringlog_tests::random::Random;
@@ -202,17 +203,12 @@ fn every_single_bent_byte_gives_what_the_model_gives_for_every_d() {
     let mut met = [0; 8];
     for n in 1..=9 {
         let log = logs::log(n, &mut random);
-        let mut bytes = log.bytes().to_vec();
-        for at in 0..bytes.len() {
-            for mask in MASKS {
-                bytes[at] ^= mask;
-                for d in 0..=n + 1 {
-                    let case = || format!("{n} values, byte {at} bent with {mask:#04x}");
-                    met[cut_log(&bytes, d, case).number as usize] += 1;
-                }
-                bytes[at] ^= mask;
+        each_bent(log.bytes(), |bytes, bent| {
+            for d in 0..=n + 1 {
+                let answer = cut_log(bytes, d, || format!("{n} values, {bent}"));
+                met[answer.number as usize] += 1;
             }
-        }
+        });
     }
     assert!([0, 2, 6, 7].iter().all(|&no| met[no] > 1_000), "{met:?}");
 }

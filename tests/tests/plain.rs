@@ -1,7 +1,8 @@
 //! The plain Rust that the benchmark measures against the model: SHA-256, append and audit that make
 //! each entry from the strata before it, and the search.
 
-use ringlog_tests::logs::{self, LONGEST_ENTRY, LONGEST_LOG, MASKS};
+use ringlog_tests::bent::each_bent;
+use ringlog_tests::logs::{self, LONGEST_ENTRY, LONGEST_LOG};
 use ringlog_tests::model::Log;
 use ringlog_tests::pairs::{self, parted_at, values, with_others};
 use ringlog_tests::random::Random;
@@ -48,14 +49,9 @@ fn audits_of_whole_and_torn_logs_agree() {
 fn audits_of_bent_logs_agree() {
     let mut random = Random::new(2);
     let log = logs::log(9, &mut random);
-    let mut bytes = log.bytes().to_vec();
-    for at in 0..bytes.len() {
-        for mask in MASKS {
-            bytes[at] ^= mask;
-            assert_audits_agree(&bytes, || format!("byte {at} bent with {mask:#04x}"));
-            bytes[at] ^= mask;
-        }
-    }
+    each_bent(log.bytes(), |bytes, bent| {
+        assert_audits_agree(bytes, || bent.to_string());
+    });
 }
 
 #[test]
@@ -184,16 +180,11 @@ fn searches_of_bent_logs_agree() {
     let list = values(9, &mut random);
     let log = Log::of(&list);
     let other = Log::of(&with_others(&list, &[1], &mut random));
-    let mut bytes = log.bytes().to_vec();
-    for at in 0..bytes.len() {
-        for mask in MASKS {
-            bytes[at] ^= mask;
-            let case = || format!("byte {at} bent with {mask:#04x}");
-            assert_searches_agree(&bytes, other.bytes(), case);
-            assert_searches_agree(log.beginning(1), &bytes, case);
-            bytes[at] ^= mask;
-        }
-    }
+    each_bent(log.bytes(), |bytes, bent| {
+        let case = || bent.to_string();
+        assert_searches_agree(bytes, other.bytes(), case);
+        assert_searches_agree(log.beginning(1), bytes, case);
+    });
 }
 
 #[test]

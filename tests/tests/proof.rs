@@ -2,10 +2,11 @@
 //! model answers. Every byte of the output afterwards is held to the model's.
 
 use ringlog_tests::answers::{done, refusal};
+use ringlog_tests::bent::each_bent;
 use ringlog_tests::far::{Far, LIMIT};
 use ringlog_tests::forged::{self, Forged};
 use ringlog_tests::links::{self, RUNNING_OUT};
-use ringlog_tests::logs::{self, LONG, MASKS, SHEET_HOPS};
+use ringlog_tests::logs::{self, LONG, SHEET_HOPS};
 use ringlog_tests::memory::{lend_beginnings, Memory};
 use ringlog_tests::model::inclusion::hops;
 use ringlog_tests::model::{item, Log};
@@ -274,18 +275,12 @@ fn every_single_bent_byte_gives_what_the_model_gives_for_every_index() {
     let mut met = [0; 9];
     for n in 1..=9 {
         let log = logs::log(n, &mut random);
-        let mut bytes = log.bytes().to_vec();
-        for at in 0..bytes.len() {
-            for mask in MASKS {
-                bytes[at] ^= mask;
-                for i in 0..=n + 1 {
-                    let case = || format!("{n} values, byte {at} bent with {mask:#04x}");
-                    let (answer, _) = proof(&bytes, i, 100, case);
-                    met[answer.number as usize] += 1;
-                }
-                bytes[at] ^= mask;
+        each_bent(log.bytes(), |bytes, bent| {
+            for i in 0..=n + 1 {
+                let (answer, _) = proof(bytes, i, 100, || format!("{n} values, {bent}"));
+                met[answer.number as usize] += 1;
             }
-        }
+        });
     }
     let all = [0, 2, 6, 7, 8];
     assert!(all.iter().all(|&no| met[no] > 1_000), "{met:?}");

@@ -1,8 +1,9 @@
 //! The library's root: of a log, what the model works out from its values; of any bytes, the digest
 //! that the model finds stored, or its refusal.
 
+use ringlog_tests::bent::each_bent;
 use ringlog_tests::far::{Far, LIMIT};
-use ringlog_tests::logs::{self, MASKS};
+use ringlog_tests::logs;
 use ringlog_tests::memory::lend_beginnings;
 use ringlog_tests::model::Log;
 use ringlog_tests::random::Random;
@@ -85,18 +86,12 @@ fn every_single_bent_byte_gives_what_the_model_gives() {
     let (mut opened, mut refused) = (0, 0);
     for n in 1..=20 {
         let log = logs::log(n, &mut random);
-        let mut bytes = log.bytes().to_vec();
-        for at in 0..bytes.len() {
-            for mask in MASKS {
-                let case = || format!("{n} values, byte {at} bent with {mask:#04x}");
-                bytes[at] ^= mask;
-                match root(&bytes, case).number {
-                    0 => opened += 1,
-                    _ => refused += 1,
-                }
-                bytes[at] ^= mask;
+        each_bent(log.bytes(), |bytes, bent| {
+            match root(bytes, || format!("{n} values, {bent}")).number {
+                0 => opened += 1,
+                _ => refused += 1,
             }
-        }
+        });
     }
     assert!(opened > 1_000 && refused > 1_000, "{opened}, {refused}");
 }

@@ -1,10 +1,11 @@
 //! The library's checked value: of a log and its root, value i where it stands in the log; of any
 //! bytes and any root, what the model answers.
 
+use ringlog_tests::bent::each_bent;
 use ringlog_tests::far::{Far, LIMIT};
 use ringlog_tests::forged::{self, folded_root, Forged};
 use ringlog_tests::links::{self, RUNNING_OUT};
-use ringlog_tests::logs::{self, LONG, MASKS};
+use ringlog_tests::logs::{self, LONG};
 use ringlog_tests::memory::lend_beginnings;
 use ringlog_tests::model::tree::leaf_digest;
 use ringlog_tests::model::{item, Log};
@@ -186,17 +187,12 @@ fn every_bent_byte_of_the_root_gives_7() {
     let mut random = Random::new(9);
     for n in 1..=9 {
         let mut log = logs::log(n, &mut random);
-        let mut root = log.root();
-        for at in 0..32 {
-            for mask in MASKS {
-                root[at] ^= mask;
-                for i in 1..=n {
-                    let part = ringlog::value(log.bytes(), &root, i);
-                    assert_eq!(part, refusal(7), "{i} of {n}, byte {at}");
-                }
-                root[at] ^= mask;
+        each_bent(&log.root(), |root, bent| {
+            for i in 1..=n {
+                let part = ringlog::value(log.bytes(), root, i);
+                assert_eq!(part, refusal(7), "{i} of {n}, {bent}");
             }
-        }
+        });
     }
 }
 
@@ -270,21 +266,16 @@ fn whatever_byte_is_bent_a_value_that_is_answered_is_the_one_under_the_root() {
     for n in 1..=9 {
         let mut log = logs::log(n, &mut random);
         let root = log.root();
-        let mut bytes = log.bytes().to_vec();
-        for at in 0..bytes.len() {
-            for mask in MASKS {
-                bytes[at] ^= mask;
-                for i in 0..=n + 1 {
-                    let case = || format!("{n} values, byte {at} bent with {mask:#04x}");
-                    let part = value(&bytes, &root, i, case);
-                    met[part.number as usize] += 1;
-                    if part.number == 0 {
-                        assert_eq!(item(&bytes, part), log.value(i), "{}", case());
-                    }
+        each_bent(log.bytes(), |bytes, bent| {
+            for i in 0..=n + 1 {
+                let case = || format!("{n} values, {bent}");
+                let part = value(bytes, &root, i, case);
+                met[part.number as usize] += 1;
+                if part.number == 0 {
+                    assert_eq!(item(bytes, part), log.value(i), "{}", case());
                 }
-                bytes[at] ^= mask;
             }
-        }
+        });
     }
     assert!([0, 2, 6, 7].iter().all(|&no| met[no] > 1_000), "{met:?}");
 }
