@@ -28,6 +28,8 @@
  *
  * THE LOG
  *
+ * docs/FORMAT.md has all of this with tables, pictures and worked examples.
+ *
  * A log is the entries of 0 to 4,096 values, one behind the other, numbered from 1. The value of an
  * entry is a value item, a kind byte and a body:
  *
