@@ -1,6 +1,7 @@
 -- The public answers, from what the search has found.
 -- Assumes nothing.
 use mathlib.Core.List.{List, []}
+use mathlib.Core.Logic.{inl, inr}
 use mathlib.Core.Path.{_≡_, refl, _∙_}
 use Prim.Native.Nat.{ℕ, _-_, _≤_, _<_}
 use native.Mathlib.Omega.{arith}
@@ -81,6 +82,6 @@ pub piece-placed : claims.PiecePlaced
 unfolding part
 piece-placed b c p e =
     by-place b c p e
-    (λ d le n q. (λ h. absurd (omega arith), λ h. rw n (rest-slice c (p .offset) ∙ q), λ h. absurd (omega arith)))
-    (λ d le n q. (λ h. rw n (rest-slice b (p .offset) ∙ q), λ h. absurd (omega arith), λ h. absurd (omega arith)))
-    (λ d q. (λ h. absurd (omega arith), λ h. absurd (omega arith), λ h. q))
+    (λ d le n q. inr (inl (d, rw n (rest-slice c (p .offset) ∙ q))))
+    (λ d le n q. inl (d, rw n (rest-slice b (p .offset) ∙ q)))
+    (λ d q. inr (inr (d, q)))

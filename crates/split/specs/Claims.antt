@@ -80,13 +80,13 @@ UnreadFree =
     (b c b′ c′ : List ℕ) (f : Compared) (a d : Trace) → length b ≡ length b′ → length c ≡ length c′
     → searched b c ≡ answered f a d → Kept b b′ (a .reads) → Kept c c′ (d .reads) → searched b′ c′ ≡ answered f a d
 
--- the piece lies where `placeOf` says: in the first log, in the second, or nowhere
+-- the piece lies where `placeOf` says: it is that part of the first log, or of the second, or it is empty and lies in neither
 abbrev pub PiecePlaced : Type 0
 PiecePlaced =
     (b c : List ℕ) (p : Piece) → p ≡ placeOf b c (searched b c)
-    → (p .donor ≡ 1 → part b (p .offset) (p .length) ≡ pieceOf b c (searched b c))
-    × (p .donor ≡ 2 → part c (p .offset) (p .length) ≡ pieceOf b c (searched b c))
-    × (p .donor ≡ 0 → [] ≡ pieceOf b c (searched b c))
+    → ((p .donor ≡ 1) × (part b (p .offset) (p .length) ≡ pieceOf b c (searched b c)))
+    ⊎ (((p .donor ≡ 2) × (part c (p .offset) (p .length) ≡ pieceOf b c (searched b c)))
+    ⊎ ((p .donor ≡ 0) × ([] ≡ pieceOf b c (searched b c))))
 
 -- the piece is empty if the search refuses
 abbrev pub RepairRefused : Type 0
