@@ -1,6 +1,8 @@
 pub mod Bitwise
 pub mod DigestBytes
+pub mod Inputs
 pub mod MessageSchedule
+pub mod Nodes
 pub mod Padding
 pub mod Parts
 pub mod RoundRuns

@@ -3,22 +3,17 @@
 // specs/Fips180.antt is FIPS 180-4, section by section; specs/Answer.antt is what a call answers.
 // `sha256` is the public call; what `message` and `tagged` have is internal, for the crates above.
 mod hash_value;
+mod input;
 pub mod message;
+mod node;
 mod rounds;
 mod schedule;
 pub mod tagged;
 mod word;
 
 ghost use mathlib.Core.Path.{_≡_};
-ghost use Prim.Native.Nat.{_≤_};
-ghost use lib.ListN.{length};
 ghost use Rattle.sha256.specs.Answer.{hashed};
-ghost use Rattle.sha256.specs.Fips180 as fips;
-use hash_value::digest_of;
-use hash_value::initial;
-use message::block;
-use message::block_count;
-use rounds::compress;
+use input::digest;
 
 // The answer to a message: number 0 and its digest, or the refusal 1 and zeros.
 pub struct Hashed {
@@ -52,17 +47,4 @@ pub fn sha256(message: &[u8]) -> Hashed
         number: 0,
         digest: digest(message),
     }
-}
-
-// The digest of a message that is not too long.
-fn digest(message: &[u8]) -> [u8; 32]
-    requires { ⌜ length (now message) ≤ 65535 ⌝ }
-    ensures { λ r. ⌜ r ≡ fips.sha256 (now (message .entry)) ⌝ }
-{
-    let count = block_count(message.len());
-    let mut state = initial();
-    for i in 0..count {
-        state = compress(state, block(message, i));
-    }
-    digest_of(state)
 }

@@ -7,7 +7,7 @@ ghost use lib.ListN.{length, getD};
 ghost use Rattle.sha256.specs.Fips180 as fips;
 
 // The number whose four bytes, most significant first, are a, b, c and d.
-fn join(a: u8, b: u8, c: u8, d: u8) -> u32
+pub fn join(a: u8, b: u8, c: u8, d: u8) -> u32
     ensures { λ r. ⌜ r ≡ fips.join a b c d ⌝ }
 {
     (a as u32) * 16777216 + (b as u32) * 65536 + (c as u32) * 256 + (d as u32)
