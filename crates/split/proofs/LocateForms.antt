@@ -5,11 +5,13 @@ use mathlib.Core.List.{List, [], _∷_}
 use mathlib.Core.Path.{_≡_, refl, sym, ap, ap₂, _∙_}
 use Prim.Native.Nat.{ℕ, zero, suc, _+_, _-_, _≤_, _<_, min}
 use native.Mathlib.Numerals.{add-one, one-add}
+use native.Mathlib.Nat.{add-zero}
 use native.Mathlib.Omega.{arith}
 use lib.ListN.{length, length-append}
 use Rattle.slate.specs.Bytes.{same}
 use Rattle.slate.specs.Comparison.{Compared, byLength}
-use Rattle.slate.specs.Digits.{maxHeight}
+use Rattle.slate.specs.Address.{highest}
+use Rattle.slate.specs.Digits.{digit, maxHeight}
 use Rattle.entry.specs.Read.{digestAt, entryLenAt}
 use Rattle.entry.specs.Shape.{openedLog}
 use Rattle.entry.specs.Walk.{Descent, Place, arrived, descend, walkOf}
@@ -34,7 +36,7 @@ use Rattle.slate.proofs.Cases.{by-bool}
 use Rattle.entry.proofs.Descents.{descend-inside}
 use Rattle.entry.proofs.Reached.{Indexed, walk-reached, walk-stopped}
 use Rattle.split.proofs.Brought.{brought-inside}
-use Rattle.split.proofs.DownForms.{leaf-counted}
+use Rattle.split.proofs.DownForms.{at-leaf, leaf-counted}
 use Rattle.split.proofs.Downs.{down-descends}
 use Rattle.split.proofs.Searches.{by-answered, searched-none}
 
@@ -63,6 +65,14 @@ module _ (b c : List ℕ) (t : ℕ) (a d : Tally) (v : Bool)
     below-leaf x l m r s f =
         let k = leaf-counted (down b c (a .at) (d .at) t maxHeight) w x l m r s ew f in
         rw (← tops, e, k .run, ← k .first-count, ← k .second-count, add-one x)
+
+  -- at the first entry there is nothing below
+  pub first-leaf : v ≡ false → t ≡ 0 → located.Found 0 (verdict.DifferAt 1) a d ≡ locatedAt b c t a d
+  unfolding highest maxHeight digit
+  first-leaf e z =
+      let top : 0 ≡ highest t maxHeight = rw z in
+      let found = below-leaf e (answer.Leaf t (a .at) (d .at) 0 0) (at-leaf b c (a .at) (d .at) t maxHeight 0 top refl) t (a .at) (d .at) 0 0 refl in
+      rw z (rw (add-zero (a .reads), add-zero (d .reads), z) at found)
 
 -- ---- both logs are open, and n is the smaller length
 

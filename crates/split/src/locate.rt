@@ -21,6 +21,7 @@ use entry::Opened;
 use entry::Walk;
 use entry::layout::entry_len_at;
 use entry::opening::open_log;
+use entry::reborrow::reborrow;
 use entry::steps::descend;
 use slate::digits::MAX_HEIGHT;
 
@@ -95,6 +96,14 @@ fn locate_at(first: &[u8], second: &[u8], position: u32, a: Tally, b: Tally) -> 
                 reads: b.reads,
                 at: b.at + second_length,
             },
+        };
+    }
+    if position == 0 {
+        return Located::Found {
+            common: 0,
+            verdict: Verdict::DifferAt(1),
+            first: a,
+            second: b,
         };
     }
     match down(first, second, a.at, b.at, position, MAX_HEIGHT) {
@@ -172,14 +181,14 @@ pub fn locate(first: &[u8], second: &[u8]) -> Located
     let Opened::Log {
         start: first_last,
         count: m,
-    } = open_log(first)
+    } = open_log(reborrow(first))
     else {
         return Located::Refused(Side::First, Cause::Shape);
     };
     let Opened::Log {
         start: second_last,
         count: k,
-    } = open_log(second)
+    } = open_log(reborrow(second))
     else {
         return Located::Refused(Side::Second, Cause::Shape);
     };
@@ -199,5 +208,12 @@ pub fn locate(first: &[u8], second: &[u8]) -> Located
             },
         };
     }
-    locate_from(first, second, first_last, m, second_last, k)
+    locate_from(
+        reborrow(first),
+        reborrow(second),
+        first_last,
+        m,
+        second_last,
+        k,
+    )
 }

@@ -12,52 +12,57 @@ use Rattle.split.proofs.locate.locate.Tie as tie
 -- what opening answers
 first-opens : (c : tie.After-known-told)
     → let g = c .before .first-last .given .0 in
-    openedLog (c .before .before .before .before .before .before .args .first .now) ≡ opened.Log (g .0) (g .1 .0)
-first-opens c = sym (c .before .before .before .open-log .ensures) ∙ c .before .first-last .given .1
+    openedLog (c .before .before .before .before .before .before .before .args .first .now) ≡ opened.Log (g .0) (g .1 .0)
+first-opens c =
+    rw (c .before .before .before .before .reborrow .ensures) at (sym (c .before .before .before .open-log .ensures)) ∙ c .before .first-last .given .1
 
 second-opens : (c : tie.After-known-told2)
     → let g = c .before .second-last .given .0 in
-    openedLog (c .before .before .before .before .before .before .before .before .before .before .args .second .now) ≡ opened.Log (g .0) (g .1 .0)
-second-opens c = sym (c .before .before .before .open-log2 .ensures) ∙ c .before .second-last .given .1
+    openedLog (c .before .before .before .before .before .before .before .before .before .before .before .before .args .second .now) ≡ opened.Log (g .0) (g .1 .0)
+second-opens c =
+    rw (c .before .before .before .before .reborrow2 .ensures) at (sym (c .before .before .before .open-log2 .ensures)) ∙ c .before .second-last .given .1
 
 returns : tie.Need-returns
-returns c = first-unopened _ _ (sym (c .before .before .open-log .ensures) ∙ c .enum-told .given .1)
+returns c =
+    first-unopened _ _ (rw (c .before .before .before .reborrow .ensures) at (sym (c .before .before .open-log .ensures)) ∙ c .enum-told .given .1)
 
 returns-2 : tie.Need-returns-2
 returns-2 c =
-    second-unopened _ _ _ _ (first-opens (c .before .before .before))
-    (sym (c .before .before .open-log2 .ensures) ∙ c .enum-told2 .given .1)
+    second-unopened _ _ _ _ (first-opens (c .before .before .before .before))
+    (rw (c .before .before .before .reborrow2 .ensures) at (sym (c .before .before .open-log2 .ensures)) ∙ c .enum-told2 .given .1)
 
 returns-3 : tie.Need-returns-3
 returns-3 c =
     let n = c .before .before .before in
     let s = n .before .before in
-    one-empty _ _ _ _ (first-opens (s .before .before .before .before)) _ _ (second-opens s)
+    one-empty _ _ _ _ (first-opens (s .before .before .before .before .before)) _ _ (second-opens s)
     (sym (n .before .smaller .ensures) ∙ n .if1 .taken)
     _ _ _ (c .before .before .by-length .ensures) (c .before .opening-reads .ensures) (c .opening-reads2 .ensures)
 
 locate-from-requires : tie.Need-locate-from-requires
 locate-from-requires c κs =
-    let s = c .before .before in
-    let n = c .before .smaller .ensures in (
-      (first-opens (s .before .before .before .before), omega (arith, n, c .if1 .left)),
-      (second-opens s, omega (arith, n, c .if1 .left)),
+    let e = c .before .before in
+    let s = e .before .before in
+    let n = e .before .smaller .ensures in (
+      (rw (c .before .reborrow3 .ensures) (first-opens (s .before .before .before .before .before)), omega (arith, n, e .if1 .left)),
+      (rw (c .reborrow4 .ensures) (second-opens s), omega (arith, n, e .if1 .left)),
     )
 
 returns-4 : tie.Need-returns-4
 returns-4 c = let s =
-    c .before .before .before in both-opened _ _ _ _ (first-opens (s .before .before .before .before)) _ _ (second-opens s) _
-    (c .locate-from .ensures)
+    c .before .before .before .before .before in both-opened _ _ _ _ (first-opens (s .before .before .before .before .before)) _ _ (second-opens s) _
+    (rw (c .before .before .reborrow3 .ensures, c .before .reborrow4 .ensures) at (c .locate-from .ensures))
 
 pub locate-spec : {M : Type 1} → statement M
 locate-spec =
     tie.close
     (tie.spec
-    (λ c κs. search needs) (λ c. search needs) (λ c. search needs)
+    (λ c κs. search needs) (λ c κs. search needs) (λ c. search needs) (λ c. search needs)
     returns
-    (λ c κs. search needs) (λ c. search needs) (λ c. search needs)
+    (λ c κs. search needs) (λ c κs. search needs) (λ c. search needs) (λ c. search needs)
     returns-2
     (λ c κs. search needs) (λ c κs. search needs) (λ c κs. search needs) (λ c κs. search needs)
     returns-3
+    (λ c κs. search needs) (λ c κs. search needs)
     locate-from-requires
     returns-4)
