@@ -42,6 +42,11 @@ pub whole-base : (x h : ℕ) → x < 2 ^ h → base x h ≡ 0
 unfolding base
 whole-base x h lt = rw (div-eq-of-lt lt) (zero-mul (2 ^ h))
 
+-- the positions of a block have one start
+pub base-same : (x y p : ℕ) → base x p ≤ y → y < base x p + 2 ^ p → base y p ≡ base x p
+unfolding base
+base-same x y p low high = ap (λ (q : ℕ). q * 2 ^ p) (in-block (x / 2 ^ p) y p low high)
+
 base-twice : (x p : ℕ) → base x (suc p) ≡ x / 2 ^ p / 2 * 2 * 2 ^ p
 unfolding base
 base-twice x p = ap (λ (q : ℕ). q * 2 ^ suc p) (half x p) ∙ twice (x / 2 ^ p / 2) p

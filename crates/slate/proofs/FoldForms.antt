@@ -1,61 +1,84 @@
--- The fold of a proof, one height more each time, as code takes it: h is p + 1, and k siblings are folded up to there.
+-- The fold of a proof as code takes it, from the leaf up: h is p + 1, and x the position at which the way down stands at height h.
 -- Assumes nothing.
 use mathlib.Core.List.{List}
-use mathlib.Core.Path.{_≡_, _∙_}
-use Prim.Native.Nat.{ℕ, suc, _+_, _*_, _-_, _≤_, _<_}
+use mathlib.Core.Path.{_≡_, refl, _∙_}
+use Prim.Native.Nat.{ℕ, suc, _+_, _*_, _-_, _^_, _≤_, _<_}
+use native.Mathlib.Decide.{le-ind}
 use native.Mathlib.Nat.{add-sub-cancel-left}
 use native.Mathlib.Omega.{arith}
 use borrow.Author.Tests.{le-ltb, lt-ltb}
 use lib.ListN.{take, drop}
 use Rattle.sha256.specs.Answer.{tagged}
 use Rattle.slate.specs.Bytes.{part}
-use Rattle.slate.specs.Digits.{base, digit, left}
+use Rattle.slate.specs.Digits.{base, digit, ifSet}
 use Rattle.slate.specs.Moves.{hopsFrom}
 use Rattle.slate.specs.Path.{foldFrom}
 use Rattle.slate.specs.Tree.{slate}
-use Rattle.slate.proofs.Cases.{by-order}
+use Rattle.slate.proofs.Cases.{by-digit, by-order}
 use Rattle.slate.proofs.Descent.{moves-left, moves-none, moves-right}
+use Rattle.slate.proofs.WayUp.{on-left, on-right, onWay, way-left, way-none, way-right, way-root}
 
--- the sibling behind the first n digests, as the part of the proof from 32·n to 32·n + 32
+-- up to height h the leaf at position t is folded: to own, with the siblings in front of `at`
+pub record Folded (m t : ℕ) (leaf proof : List ℕ) (h : ℕ) (own : List ℕ) (at : ℕ) : Type 0 where
+  pub digest : own ≡ foldFrom slate (onWay m t h) h t leaf proof
+  pub place : at ≡ 32 * hopsFrom (onWay m t h) h t
+
+-- the sibling at `at`, as a part of the proof
 abbrev pub siblingBytes : List ℕ → ℕ → List ℕ
-siblingBytes proof n = take (32 * n + 32 - 32 * n) (drop (32 * n) proof)
+siblingBytes proof at = take (at + 32 - at) (drop at proof)
 
-pub fold-leaf : (x h t : ℕ) (leaf proof : List ℕ) → h ≡ 0 → leaf ≡ foldFrom slate x h t leaf proof
-unfolding foldFrom
-fold-leaf x h t leaf proof e = rw e
+module _ (m t : ℕ) (le : t ≤ m) where
+  -- a sibling more for each set digit
+  moves-up : (p x : ℕ) → x ≡ onWay m t (suc p) → hopsFrom x (suc p) t ≡ digit x p + hopsFrom (onWay m t p) p t
+  moves-up p x on =
+      by-digit x p
+      (λ d. rw (d, way-none m t le p x on d) (moves-none x p t d ∙ omega arith))
+      (λ d. by-order t (base x p)
+      (λ o. rw (d, way-left m t le p x on d o) (moves-left x p t d o ∙ omega arith))
+      (λ o. rw (d, way-right m t le p x on d o) (moves-right x p t d o ∙ omega arith)))
 
-module _ (x p h t : ℕ) (next : h ≡ suc p) where
-  pub fold-none : digit x p ≡ 0 → (leaf proof : List ℕ) → foldFrom slate x p t leaf proof ≡ foldFrom slate x h t leaf proof
-  unfolding foldFrom
-  fold-none d leaf proof = rw (next, d)
+  moves-rise : (p h : ℕ) → p ≤ h → hopsFrom (onWay m t p) p t ≤ hopsFrom (onWay m t h) h t
+  moves-rise p h up =
+      le-ind (λ (q : ℕ). hopsFrom (onWay m t p) p t ≤ hopsFrom (onWay m t q) q t) (omega arith)
+      (λ q k e. omega (arith, moves-up q (onWay m t (suc q)) refl)) h up
 
-  module _ (k : ℕ) (count : k ≡ hopsFrom x h t) where
-    pub hops-none : digit x p ≡ 0 → k ≡ hopsFrom x p t
-    hops-none d = count ∙ rw next (moves-none x p t d)
+  module _ (leaf proof : List ℕ) where
+    pub folded-leaf : Folded m t leaf proof 0 leaf 0
+    unfolding foldFrom hopsFrom
+    folded-leaf = record { digest = refl; place = refl }
 
-    module _ (d : digit x p ≡ 1) where
-      pub hops-some : 1 ≤ k
-      hops-some =
-          by-order t (base x p)
-          (λ a. omega (arith, rw next at count, moves-left x p t d a))
-          (λ a. omega (arith, rw next at count, moves-right x p t d a))
+    pub folded-root : (h : ℕ) → m < 2 ^ h → (own : List ℕ) (at : ℕ) → Folded m t leaf proof h own at → own ≡ foldFrom slate m h t leaf proof
+    folded-root h lt own at f = rw (way-root m t le h lt) at (f .digest)
 
-      -- the leaf is under the right child
-      module _ (a : base x p ≤ t) where
-        pub hops-right : k - 1 ≡ hopsFrom x p t
-        hops-right = omega (arith, rw next at count, moves-right x p t d a)
+    module _ (p h x : ℕ) (next : h ≡ suc p) (on : x ≡ onWay m t h) (own : List ℕ) (at : ℕ) (f : Folded m t leaf proof p own at) where
+      here : x ≡ onWay m t (suc p)
+      here = rw next at on
 
-        pub fold-right : (leaf proof r q : List ℕ) → r ≡ foldFrom slate x p t leaf proof → q ≡ tagged h (siblingBytes proof (k - 1)) r
-            → q ≡ foldFrom slate x h t leaf proof
+      moves-here : hopsFrom (onWay m t h) h t ≡ digit x p + hopsFrom (onWay m t p) p t
+      moves-here = rw (← on, next) (moves-up p x here)
+
+      pub folded-none : digit x p ≡ 0 → Folded m t leaf proof h own at
+      unfolding foldFrom
+      folded-none d = record {
+        digest = f .digest ∙ rw (← on, way-none m t le p x here d, next, d);
+        place = omega (arith, f .place, moves-here);
+      }
+
+      module _ (d : digit x p ≡ 1) where
+        -- a sibling is left
+        pub folded-room : (k n : ℕ) → h ≤ k → m < 2 ^ k → 32 * hopsFrom m k t ≤ n → at + 32 ≤ n
+        folded-room k n up lt room = omega (arith, f .place, moves-here, rw (way-root m t le k lt) at (moves-rise h k up))
+
+        pub folded-node : (r : List ℕ)
+            → r ≡ ifSet (digit t p) (tagged h (siblingBytes proof at) own) (tagged h own (siblingBytes proof at))
+            → Folded m t leaf proof h r (at + 32)
         unfolding foldFrom part tagged
-        fold-right leaf proof r q er eq = eq ∙ rw (add-sub-cancel-left, hops-right, er, next, d, le-ltb t (base x p) a)
-
-      -- it is under the left child, which stands at position y
-      module _ (a : t < base x p) (y : ℕ) (ey : y ≡ left x p) where
-        pub hops-left : k - 1 ≡ hopsFrom y p t
-        hops-left = rw ey (omega (arith, rw next at count, moves-left x p t d a))
-
-        pub fold-left : (leaf proof r q : List ℕ) → r ≡ foldFrom slate y p t leaf proof → q ≡ tagged h r (siblingBytes proof (k - 1))
-            → q ≡ foldFrom slate x h t leaf proof
-        unfolding foldFrom part tagged
-        fold-left leaf proof r q er eq = eq ∙ rw (add-sub-cancel-left, hops-left, er, ey, next, d, lt-ltb t (base x p) a)
+        folded-node r e = record {
+          digest =
+              by-digit t p
+              (λ s. let o = on-left m t le p x here d s in
+              e ∙ rw (s, add-sub-cancel-left, f .place, f .digest, ← on, way-left m t le p x here d o, next, d, lt-ltb t (base x p) o))
+              (λ s. let o = on-right m t le p x here d s in
+              e ∙ rw (s, add-sub-cancel-left, f .place, f .digest, ← on, way-right m t le p x here d o, next, d, le-ltb t (base x p) o));
+          place = omega (arith, f .place, moves-here);
+        }

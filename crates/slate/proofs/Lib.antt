@@ -18,3 +18,4 @@ pub mod Lists
 pub mod Outside
 pub mod PartialTree
 pub mod Tops
+pub mod WayUp

@@ -1,58 +1,62 @@
-// The fold of a leaf's digest with the siblings of a proof, the one next to the leaf first.
+// The fold of a leaf's digest with the siblings of a proof, the one next to the leaf first: from the
+// leaf up, a node a turn.
 ghost use mathlib.Core.Path.{_≡_};
-ghost use Prim.Native.Nat.{_*_, _-_, _^_, _≤_};
+ghost use Prim.Native.Nat.{_+_, _*_, _-_, _^_, _≤_, _<_, min};
 ghost use lib.ListN.{length};
-ghost use Rattle.slate.specs.Digits.{maxHeight};
+ghost use Rattle.sha256.specs.Answer.{tagged};
+ghost use Rattle.slate.specs.Digits as digits;
 ghost use Rattle.slate.specs.Moves as moves;
 ghost use Rattle.slate.specs.Path.{foldFrom};
 ghost use Rattle.slate.specs.Tree.{slate};
 use crate::digits::MAX_HEIGHT;
 use crate::digits::base;
 use crate::digits::digit;
-use crate::digits::left;
-use crate::moves::hops;
+use crate::order::smaller;
 use sha256::tagged::hash_tagged;
 
-// The digest of the highest node of height at most `height` at this position, from the digest of
-// the leaf at position `target`. `count` is how many siblings are folded.
-fn fold_from(
-    position: u32,
-    height: u32,
-    target: u32,
-    leaf: [u8; 32],
-    proof: &[u8],
-    count: usize,
-) -> [u8; 32]
-    requires { ⌜ height ≤ maxHeight ⌝ }
-    requires { ⌜ count ≡ moves.hopsFrom position height target ⌝ }
-    requires { ⌜ 32 * count ≤ length (now proof) ⌝ }
-    ensures { λ r. ⌜ r ≡ foldFrom slate position height target leaf (now (proof .entry)) ⌝ }
+// The position at which the way from position `last` down to the leaf at position `target` stands at
+// height h: the end of the block of 2^h positions around the leaf or, where that block is cut short,
+// the last position.
+fn way_position(last: u32, target: u32, h: u32) -> u32
+    requires { ⌜ (target ≤ last) × (last < 2 ^ digits.maxHeight) × (h ≤ digits.maxHeight) ⌝ }
+    ensures { λ r. ⌜ r ≡ min last (digits.base target h + (2 ^ h - 1)) ⌝ }
 {
-    if height == 0 {
-        return leaf;
+    smaller(last, base(target, h) + ((1 << h) - 1))
+}
+
+// The digest of the node of height p + 1 on that way from that of its child on the way, and the
+// sibling: digit p of the target tells which child the way goes to.
+fn over(p: u32, target: u32, child: [u8; 32], sibling: &[u8]) -> [u8; 32]
+    requires { ⌜ p < digits.maxHeight ⌝ }
+    requires { ⌜ length (now sibling) ≡ 32 ⌝ }
+    ensures { λ r. ⌜ r ≡ digits.ifSet (digits.digit target p) (tagged (p + 1) (now (sibling .entry)) child) (tagged (p + 1) child (now (sibling .entry))) ⌝ }
+{
+    let tag = (p + 1) as u8;
+    if digit(target, p) == 0 {
+        return hash_tagged(tag, &child, sibling);
     }
-    let p = height - 1;
-    if digit(position, p) == 0 {
-        return fold_from(position, p, target, leaf, proof, count);
-    }
-    let tag = height as u8;
-    let fewer = count - 1;
-    let at = 32 * fewer;
-    let sibling = &proof[at..at + 32];
-    if base(position, p) <= target {
-        let below = fold_from(position, p, target, leaf, proof, fewer);
-        return hash_tagged(tag, sibling, &below);
-    }
-    let below = fold_from(left(position, p), p, target, leaf, proof, fewer);
-    hash_tagged(tag, &below, sibling)
+    hash_tagged(tag, sibling, &child)
 }
 
 // The fold of the leaf's digest as that of value i of n. Internal: 1 ≤ i ≤ n ≤ 4,096, and the proof
 // has the siblings.
 pub fn fold(n: u32, i: u32, leaf: [u8; 32], proof: &[u8]) -> [u8; 32]
-    requires { ⌜ (1 ≤ i) × (i ≤ n) × (n ≤ 2 ^ maxHeight) ⌝ }
+    requires { ⌜ (1 ≤ i) × (i ≤ n) × (n ≤ 2 ^ digits.maxHeight) ⌝ }
     requires { ⌜ 32 * moves.hops n i ≤ length (now proof) ⌝ }
-    ensures { λ r. ⌜ r ≡ foldFrom slate (n - 1) maxHeight (i - 1) leaf (now (proof .entry)) ⌝ }
+    ensures { λ r. ⌜ r ≡ foldFrom slate (n - 1) digits.maxHeight (i - 1) leaf (now (proof .entry)) ⌝ }
 {
-    fold_from(n - 1, MAX_HEIGHT, i - 1, leaf, proof, hops(n, i) as usize)
+    let last = n - 1;
+    let target = i - 1;
+    let mut own = leaf;
+    let mut at = 0;
+    for p in 0..MAX_HEIGHT {
+        let x = way_position(last, target, p + 1);
+        if digit(x, p) == 0 {
+            continue;
+        }
+        let node = over(p, target, own, &proof[at..at + 32]);
+        own = node;
+        at += 32;
+    }
+    own
 }

@@ -8,3 +8,4 @@ pub mod fold;
 pub mod leaf;
 pub mod length;
 pub mod moves;
+pub mod order;

@@ -24,15 +24,7 @@ use entry::opening::open_log;
 use entry::reborrow::reborrow;
 use entry::steps::descend;
 use slate::digits::MAX_HEIGHT;
-
-fn smaller(m: u32, k: u32) -> u32
-    ensures { λ r. ⌜ r ≡ min m k ⌝ }
-{
-    if m < k {
-        return m;
-    }
-    k
-}
+use slate::order::smaller;
 
 // The verdict where no value differs.
 fn by_length(m: u32, k: u32) -> Verdict
