@@ -10,6 +10,10 @@ import re
 import sys
 from pathlib import Path
 
+sys.dont_write_bytecode = True  # a run leaves nothing in the repository
+
+from check_claims import claims
+
 TOP = Path(__file__).resolve().parent.parent
 CRATES = TOP / "crates"
 PROGRAMS = {"bench_sheet", "sha256_vectors", "ringaudit"}
@@ -50,13 +54,6 @@ def check_definitions(document, cell):
     for crate, file, name in definitions(cell):
         if not is_declared(name, text_of("%s/specs/%s.antt" % (crate, file))):
             problem(document, "no %s in crates/%s/specs/%s.antt" % (name, crate, file))
-
-
-def claims():
-    """Crate, file and name of each claim."""
-    for path in [*CRATES.glob("*/specs/Claims.antt"), CRATES / "slate/specs/BenchSheet.antt"]:
-        for name in re.findall(r"(?m)^abbrev pub ([A-Z]\w*) : Type 0$", path.read_text()):
-            yield path.parent.parent.name, path.stem, name
 
 
 def check_links(document):
