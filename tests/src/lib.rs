@@ -1,8 +1,9 @@
 //! What the tests and the benchmark stand on: the model that the library is held to, the library
 //! behind safe wrappers and the answers to expect of it, the plain Rust that it is measured beside,
-//! values and logs to try, bent bytes, forged logs and their links, very long logs, pairs of logs and
-//! what a search answers of them, claims for a proof check, what is refused, random cases of all
-//! calls, memory to lend, repeatable random bytes, very long messages, and a clock.
+//! values and logs to try, bent bytes, forged logs and their links, long logs with one fault on a way,
+//! logs of over 2^32 bytes, pairs of logs and what a search answers of them, claims for a proof check,
+//! what is refused, random cases of all calls, memory to lend, repeatable random bytes, very long
+//! messages, and a clock.
 
 /// Document 01 in plain Rust, made to be seen right and not to be fast.
 pub mod model {
@@ -33,6 +34,7 @@ pub mod cases {
     mod file;
     mod lent;
     mod log;
+    mod long;
     mod make;
     mod met;
     mod outcome;
@@ -53,6 +55,7 @@ pub mod far;
 pub mod forged;
 pub mod links;
 pub mod logs;
+pub mod long;
 pub mod memory;
 pub mod pages;
 pub mod pairs;
@@ -62,3 +65,4 @@ pub mod random;
 pub mod refused;
 pub mod ringlog;
 pub mod splits;
+pub mod ways;

@@ -1,5 +1,4 @@
-//! Logs of two to eight values with links that are broken in known ways, or lead to odd places, and
-//! logs in which only the entries that links lead to are left.
+//! Logs of two to eight values with links that are broken in known ways, or lead to odd places.
 
 use crate::forged::Forged;
 use crate::logs::{value, value_of};
@@ -176,15 +175,3 @@ pub const MET_OF_EIGHT: [&[usize]; 8] = [
     &[8, 7],
     &[8],
 ];
-
-/// Random bytes, and at their places in a log of eight values the entries that are met on the way
-/// to entry i.
-pub fn only_met(log: &Log, i: usize, random: &mut Random) -> Vec<u8> {
-    assert_eq!(log.count(), 8);
-    let mut bytes = random.bytes(log.bytes().len());
-    for &met in MET_OF_EIGHT[i - 1] {
-        let entry = log.end(met - 1)..log.end(met);
-        bytes[entry.clone()].copy_from_slice(&log.bytes()[entry]);
-    }
-    bytes
-}

@@ -12,6 +12,7 @@ use ringlog_tests::model::{item, Log};
 use ringlog_tests::random::Random;
 use ringlog_tests::refused::{self, FAR_ABOVE};
 use ringlog_tests::ringlog::Count;
+use ringlog_tests::ways::only_met;
 use ringlog_tests::{model, ringlog};
 
 /// Cuts in the buffer, which has other bytes around it. The answer is held to the model's, and all
@@ -219,7 +220,7 @@ fn only_the_entries_met_matter() {
     let mut random = Random::new(12);
     let log = logs::log(8, &mut random);
     for d in 1..=8 {
-        let bytes = links::only_met(&log, d, &mut random);
+        let bytes = only_met(&log, 8, d, &mut random);
         let case = || format!("{d} of 8");
         assert_eq!(cut_log(&bytes, d, case), done(log.end(d)), "{d}");
         for &i in &MET_OF_EIGHT[d - 1][1..] {

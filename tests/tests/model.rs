@@ -15,7 +15,7 @@ use ringlog_tests::model::tree::{
 use ringlog_tests::model::walk::{bring_to, left_step, Met};
 use ringlog_tests::model::{self, Log};
 use ringlog_tests::random::Random;
-use ringlog_tests::{forged, links, logs, refused};
+use ringlog_tests::{forged, links, logs, refused, ways};
 
 fn hex(bytes: &[u8]) -> String {
     bytes.iter().map(|byte| format!("{byte:02x}")).collect()
@@ -195,6 +195,9 @@ fn lefts_are_those_of_the_bench_sheet_and_of_every_way() {
         for i in 1..=n {
             let way = bring_to(log.bytes(), last_met(log.bytes()), i).expect("a way");
             assert_eq!(way.read.len(), lefts(n, i), "lefts({n}, {i})");
+            let ends = ways::links(n, i).into_iter().map(|link| log.end(link.to.0));
+            let read = way.read.iter().rev().map(|place| place.end);
+            assert!(ends.eq(read), "the links to {i} of {n}");
         }
     }
 }

@@ -13,6 +13,7 @@ use ringlog_tests::model::{item, Log};
 use ringlog_tests::random::Random;
 use ringlog_tests::refused::{self, FAR_ABOVE};
 use ringlog_tests::ringlog::Count;
+use ringlog_tests::ways::only_met;
 use ringlog_tests::{model, ringlog};
 
 /// The length of the longest proof: 12 siblings.
@@ -320,7 +321,7 @@ fn only_the_entries_met_matter() {
     let mut random = Random::new(25);
     let mut log = logs::log(8, &mut random);
     for i in 1..=8 {
-        let bytes = links::only_met(&log, i, &mut random);
+        let bytes = only_met(&log, 8, i, &mut random);
         let (_, written) = proof(&bytes, i, 96, || format!("{i} of 8"));
         assert_eq!(written, log.path(i).concat(), "{i}");
     }

@@ -13,6 +13,7 @@ use ringlog_tests::pairs::{self, parted_at, values, with_others};
 use ringlog_tests::random::Random;
 use ringlog_tests::refused;
 use ringlog_tests::ringlog::Piece;
+use ringlog_tests::ways::only_met;
 use ringlog_tests::{model, ringlog};
 
 const NONE: Piece = Piece {
@@ -144,7 +145,7 @@ fn the_entries_of_a_damaged_log_are_counted_by_the_index_of_its_last_one() {
     let mut random = Random::new(4);
     let log = logs::log(8, &mut random);
     for n in [5, 6, 7] {
-        let damaged = links::only_met(&log, n, &mut random);
+        let damaged = only_met(&log, 8, n, &mut random);
         let shorter = log.beginning(n);
         let case = || format!("8 and {n} values");
         let piece = repair(&damaged, shorter, case);

@@ -1,12 +1,13 @@
 //! What the library's search reads: as many entries as document 01's formula says, and no byte
 //! outside them matters.
 
-use ringlog_tests::links::{self, MET_OF_EIGHT};
+use ringlog_tests::links::MET_OF_EIGHT;
 use ringlog_tests::model::search::Side;
 use ringlog_tests::model::{self, Log};
 use ringlog_tests::pairs::{self, parted_at, values, with_others};
 use ringlog_tests::random::Random;
 use ringlog_tests::splits::{differ_at, refusal, search};
+use ringlog_tests::ways::only_met;
 use ringlog_tests::{forged, ringlog};
 use std::ops::Range;
 
@@ -67,8 +68,8 @@ fn only_the_entries_read_matter_and_each_of_them_does() {
     let log = Log::of(&list);
     for i in 1..=8 {
         let other = Log::of(&with_others(&list, &[i], &mut random));
-        let first = links::only_met(&log, i, &mut random);
-        let second = links::only_met(&other, i, &mut random);
+        let first = only_met(&log, 8, i, &mut random);
+        let second = only_met(&other, 8, i, &mut random);
         let case = || format!("{i} of 8");
         assert_eq!(search(&first, &second, case), differ_at(8, 8, i), "{i}");
         for &read in MET_OF_EIGHT[i - 1] {

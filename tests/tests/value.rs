@@ -12,6 +12,7 @@ use ringlog_tests::model::{item, Log};
 use ringlog_tests::random::Random;
 use ringlog_tests::refused::{self, FAR_ABOVE};
 use ringlog_tests::ringlog::Part;
+use ringlog_tests::ways::only_met;
 use ringlog_tests::{model, ringlog};
 
 /// Lengths of what is no root.
@@ -287,7 +288,7 @@ fn only_the_entries_met_matter() {
     let mut log = logs::log(8, &mut random);
     let root = log.root();
     for i in 1..=8 {
-        let bytes = links::only_met(&log, i, &mut random);
+        let bytes = only_met(&log, 8, i, &mut random);
         let part = value(&bytes, &root, i, || format!("{i} of 8"));
         assert_eq!(part, in_place(&log, i), "{i}");
     }

@@ -4,8 +4,8 @@
 //! `cargo run --release --bin differential -- SEED COUNT [--from K] [--write FILE]`, from the folder
 //! tests/, takes COUNT cases of the seed, from number K on, else from 0. A case rests on the seed and
 //! its number alone, so that `SEED 1 --from K` runs case K again. At the first difference the case
-//! is printed in full, and the status is 1. With `--write` the cases and what the model makes of
-//! them are written to a file for tests/c/driver.c, and none is run.
+//! is printed, of a long slice its beginning, and the status is 1. With `--write` the cases and what
+//! the model makes of them are written to a file for tests/c/driver.c, and none is run.
 
 use ringlog_tests::cases;
 use std::fs::File;

@@ -70,7 +70,10 @@ pub struct Case {
     pub numbers: Vec<usize>,
 }
 
-/// The case in full, its bytes in hex.
+/// How many bytes of a slice are shown.
+const SHOWN: usize = 4_096;
+
+/// The call, its numbers and the first bytes of each slice in hex.
 impl Display for Case {
     fn fmt(&self, f: &mut Formatter) -> fmt::Result {
         let (name, slices, numbers) = self.call.signature();
@@ -86,5 +89,6 @@ impl Display for Case {
 }
 
 fn hex(bytes: &[u8]) -> String {
-    bytes.iter().map(|byte| format!("{byte:02x}")).collect()
+    let shown = bytes.iter().take(SHOWN);
+    shown.map(|byte| format!("{byte:02x}")).collect()
 }

@@ -1,6 +1,7 @@
 //! What a proof check is lent: claims that are true, and claims with one thing wrong.
 
 use super::lent::{bend, item, near, spoil_root};
+use super::long;
 use crate::claims::Claim;
 use crate::logs;
 use crate::model::entry::MOST;
@@ -8,8 +9,9 @@ use crate::random::Random;
 
 /// A claim that holds in about half of the cases.
 pub fn any(random: &mut Random) -> Claim {
-    let mut claim = match random.up_to(3) {
-        0 => of_log(random),
+    let mut claim = match random.up_to(15) {
+        0 => long::claim(random),
+        1..=4 => of_log(random),
         _ => folded(random),
     };
     if random.up_to(1) == 0 {

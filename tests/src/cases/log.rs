@@ -9,14 +9,14 @@ use crate::model::item::{four_bytes, LENGTH};
 use crate::model::tree::left_child;
 use crate::model::Log;
 use crate::random::Random;
+use crate::ways::only_met;
 use crate::{pairs, refused};
 
-/// The most values of a log: few, now and then some hundreds, rarely as many as a log can have.
+/// The most values of a log that is made anew: few, now and then some dozens, rarely some hundreds.
 pub fn most_values(random: &mut Random) -> usize {
-    match random.up_to(999) {
-        0..=4 => MOST,
-        5..=54 => 600,
-        55..=249 => 70,
+    match random.up_to(99) {
+        0 => 600,
+        1..=19 => 70,
         _ => 12,
     }
 }
@@ -34,7 +34,7 @@ pub fn any(random: &mut Random) -> Vec<u8> {
         8 => spliced(most, random),
         9..=12 => relinked(most, random),
         13 | 14 => bent_frame(most, random),
-        15..=18 => whole(most, random).bytes().to_vec(),
+        15..=18 => logs::log(random.up_to(most), random).bytes().to_vec(),
         19 => followed(most, random),
         _ => forged::any(most, random),
     }
@@ -55,19 +55,9 @@ pub fn full(random: &mut Random) -> Vec<u8> {
     logs::forged(MOST - random.up_to(1), 1 + random.up_to(200), random)
 }
 
-/// A well-formed log of up to so many values. Where these are as many as a log can have, it has often
-/// that many, or one more or less.
-fn whole(most: usize, random: &mut Random) -> Log {
-    let count = match random.up_to(3) {
-        1..=3 if most == MOST => MOST - 1 + random.up_to(2),
-        _ => random.up_to(most),
-    };
-    logs::log(count, random)
-}
-
 /// A log and something behind it: junk, or a length item that leads to where the last entry begins.
 fn followed(most: usize, random: &mut Random) -> Vec<u8> {
-    let log = whole(most, random);
+    let log = logs::log(random.up_to(most), random);
     let behind = match (random.up_to(1), last_entry(log.bytes())) {
         (0, Some(last)) => [&[LENGTH][..], &four_bytes(last.length() + 5)].concat(),
         _ => junk(random),
@@ -83,7 +73,7 @@ fn linked(random: &mut Random) -> Vec<u8> {
         1 => links::running_out(random)[..RUNNING_OUT].to_vec(),
         2 => links::second_of_two(random).0,
         3 => links::entry_1_elsewhere(random),
-        4 => links::only_met(&log, 1 + random.up_to(7), random),
+        4 => only_met(&log, 8, 1 + random.up_to(7), random),
         _ => mislinked(&log, random),
     }
 }

@@ -1,12 +1,11 @@
 //! The generator: the case of each number of a seed.
 
 use super::lent::{buffer, item, length_near, near, root};
-use super::{claim, log, pair, Call, Case};
-use crate::model::entry::MOST;
+use super::{claim, log, long, pair, Call, Case};
+use crate::forged;
 use crate::model::inclusion::hops;
 use crate::random::Random;
 use crate::splits::count;
-use crate::{forged, logs};
 
 impl Case {
     /// The case of this number of a seed. It rests on the two alone.
@@ -16,8 +15,7 @@ impl Case {
         let (lent, numbers) = match call {
             Call::Sha256 => (vec![message(random)], vec![]),
             Call::Append => append(random),
-            Call::Audit => (vec![audited(random)], vec![]),
-            Call::Root => (vec![log::any(random)], vec![]),
+            Call::Audit | Call::Root => (vec![log_and_index(random).0], vec![]),
             Call::Value => value(random),
             Call::Proof => proof(random),
             Call::CheckProof => check_proof(random),
@@ -38,6 +36,16 @@ impl Case {
 /// The slices and the numbers that a call is lent.
 type Lent = (Vec<Vec<u8>>, Vec<usize>);
 
+/// A log, and an index that is wanted of it. It is a long log now and then.
+fn log_and_index(random: &mut Random) -> (Vec<u8>, usize) {
+    if random.up_to(9) == 0 {
+        return long::walked(random);
+    }
+    let log = log::any(random);
+    let i = forged::index(&log, random);
+    (log, i)
+}
+
 /// A message: of up to some blocks, often with an end near that of a block, or about as long as the
 /// longest that is hashed.
 fn message(random: &mut Random) -> Vec<u8> {
@@ -54,7 +62,7 @@ fn message(random: &mut Random) -> Vec<u8> {
 fn append(random: &mut Random) -> Lent {
     let log = match random.up_to(15) {
         0 | 1 => log::full(random),
-        _ => log::any(random),
+        _ => log_and_index(random).0,
     };
     let item = item(random);
     let need = 43 + item.len() + 70 * count(&log).count_ones() as usize;
@@ -63,24 +71,15 @@ fn append(random: &mut Random) -> Lent {
     (vec![buffer, item], vec![used])
 }
 
-/// Bytes to audit: a log, rarely one of one value more than a log can have.
-fn audited(random: &mut Random) -> Vec<u8> {
-    match random.up_to(399) {
-        0 => logs::taps(MOST + 1, random).bytes().to_vec(),
-        _ => log::any(random),
-    }
-}
-
 fn value(random: &mut Random) -> Lent {
-    let log = log::any(random);
-    let i = forged::index(&log, random);
+    let (log, i) = log_and_index(random);
     let root = root(&log, i, random);
     (vec![log, root], vec![near(i, random)])
 }
 
 fn proof(random: &mut Random) -> Lent {
-    let log = log::any(random);
-    let i = near(forged::index(&log, random), random);
+    let (log, i) = log_and_index(random);
+    let i = near(i, random);
     let n = count(&log);
     let hops = if (1..=n).contains(&i) { hops(n, i) } else { 1 };
     let len = length_near(32 * hops, random);
@@ -95,8 +94,8 @@ fn check_proof(random: &mut Random) -> Lent {
 }
 
 fn cut(random: &mut Random) -> Lent {
-    let log = log::any(random);
-    let d = near(forged::index(&log, random), random);
+    let (log, d) = log_and_index(random);
+    let d = near(d, random);
     let room = random.up_to(1) * random.up_to(100);
     let (buffer, used) = buffer(log, room, random);
     (vec![buffer], vec![used, d])

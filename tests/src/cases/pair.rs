@@ -2,24 +2,27 @@
 
 use super::lent::end_of_one;
 use super::log::{self, mislinked, most_values};
+use super::long;
 use crate::model::Log;
 use crate::random::Random;
 use crate::{logs, pairs};
 
 type Pair = (Vec<u8>, Vec<u8>);
 
-/// Two logs whole, torn, bent, forged or spliced, or no logs at all. Most have something in common.
+/// Two logs whole, torn, bent, forged or spliced, or no logs at all. Most have something in common, and
+/// now and then both are long.
 pub fn any(random: &mut Random) -> Pair {
     let most = most_values(random);
-    let (first, second) = match random.up_to(9) {
-        0 => (log::any(random), log::any(random)),
-        1 => beside_its_beginning(random),
-        2 => {
+    let (first, second) = match random.up_to(10) {
+        0 => long::pair(random),
+        1 => (log::any(random), log::any(random)),
+        2 => beside_its_beginning(random),
+        3 => {
             let (first, second) = pairs::parted(most, random);
             (first.bytes().to_vec(), second.bytes().to_vec())
         }
-        3 => retold(most, random),
-        4 | 5 => beside_mislinked(random),
+        4 => retold(most, random),
+        5 | 6 => beside_mislinked(random),
         _ => pairs::any(most, random),
     };
     match random.up_to(1) {
