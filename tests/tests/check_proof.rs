@@ -18,6 +18,17 @@ fn claims(counts: impl IntoIterator<Item = usize>, random: &mut Random) -> Vec<C
     claims
 }
 
+/// Claims that hold of values of long logs, by proofs of up to 12 siblings.
+fn long_claims(random: &mut Random) -> Vec<Claim> {
+    let of = |(n, i)| {
+        let item = logs::value(random);
+        Claim::folded(n, i, item, random)
+    };
+    [(1_000, 1), (4_095, 1_366), (4_096, 4_096)]
+        .map(of)
+        .to_vec()
+}
+
 #[test]
 fn the_path_of_every_value_of_1_to_70_is_accepted() {
     let mut random = Random::new(1);
@@ -59,7 +70,9 @@ fn whatever_folds_to_the_root_is_accepted_for_every_n_up_to_4096() {
 #[test]
 fn every_bent_byte_of_proof_item_or_root_is_refused() {
     let mut random = Random::new(4);
-    for claim in claims([1, 2, 3, 7, 8, 13], &mut random) {
+    let mut claims = claims([1, 2, 3, 7, 8, 13], &mut random);
+    claims.extend(long_claims(&mut random));
+    for claim in claims {
         for mask in MASKS {
             for at in 0..claim.proof.len() {
                 let bent = claim.holds_with(|claim| claim.proof[at] ^= mask);
@@ -81,7 +94,9 @@ fn every_bent_byte_of_proof_item_or_root_is_refused() {
 #[test]
 fn a_proof_of_another_length_is_refused() {
     let mut random = Random::new(5);
-    for claim in claims([1, 2, 3, 7, 8, 22, 64], &mut random) {
+    let mut claims = claims([1, 2, 3, 7, 8, 22, 64], &mut random);
+    claims.extend(long_claims(&mut random));
+    for claim in claims {
         let Claim {
             n,
             i,
@@ -110,16 +125,14 @@ fn a_proof_of_another_length_is_refused() {
 #[test]
 fn a_longer_proof_is_refused_though_all_of_it_folds_to_the_root() {
     let mut random = Random::new(6);
-    for n in 1..=33 {
-        let mut log = logs::log(n, &mut random);
-        for i in 1..=n {
-            let mut claim = Claim::of(&mut log, i);
-            let sibling = random.digest();
-            claim.proof.extend(sibling);
-            for above in claim.roots_above(&sibling) {
-                let more = claim.holds_with(|claim| claim.root = above.to_vec());
-                assert!(!more, "{i} of {n}");
-            }
+    let mut claims = claims(1..=33, &mut random);
+    claims.extend(long_claims(&mut random));
+    for mut claim in claims {
+        let sibling = random.digest();
+        claim.proof.extend(sibling);
+        for above in claim.roots_above(&sibling) {
+            let more = claim.holds_with(|claim| claim.root = above.to_vec());
+            assert!(!more, "{} of {}", claim.i, claim.n);
         }
     }
 }
