@@ -2,7 +2,7 @@
 //! tear an append, every single bent byte, and bytes that are no log.
 
 use ringlog_tests::bent::each_bent;
-use ringlog_tests::logs::{self, LONGEST_LOG};
+use ringlog_tests::logs::{self, LONGEST_LOG, MASKS};
 use ringlog_tests::memory::lend_beginnings;
 use ringlog_tests::model::Log;
 use ringlog_tests::random::Random;
@@ -68,10 +68,11 @@ fn every_way_to_tear_the_last_append_leaves_the_entries_before_it() {
             let torn = &log.bytes()[..tear];
             assert_eq!(audit(torn, case), first(&log, n - 1), "{}", case());
             for erased in [0x00, 0xff] {
-                let case = || format!("{n} values torn at {tear}, then {erased:#04x}");
                 let mut bytes = torn.to_vec();
                 bytes.resize(end + 8, erased);
-                assert_eq!(audit(&bytes, case), first(&log, n - 1), "{}", case());
+                let answer = ringlog::audit(&bytes);
+                let expected = first(&log, n - 1).into();
+                assert_eq!(answer, expected, "{}, then {erased:#04x}", case());
             }
         }
     }
@@ -176,14 +177,54 @@ fn forged_entries_of_right_shape_do_not_count() {
     }
 }
 
-#[test]
-fn random_bytes_count_as_the_model_counts_them() {
-    let mut random = Random::new(11);
-    for _ in 0..20_000 {
-        let len = random.up_to(400);
-        let bytes = random.bytes(len);
-        audit(&bytes, || format!("{bytes:02x?}"));
+/// Changes these bytes: one is bent, some are lost, come twice or are others, there are more behind
+/// them, another entry of the log comes between, or all are random ones.
+fn edit(bytes: &mut Vec<u8>, log: &Log, random: &mut Random) {
+    let len = bytes.len();
+    let (a, b) = (random.up_to(len), random.up_to(len));
+    let (from, to) = (a.min(b), a.max(b));
+    let near = (from + random.up_to(9)).min(len);
+    let some = random.up_to(60);
+    match random.up_to(15) {
+        0 => bytes.fill_with(|| random.word() as u8),
+        1 => bytes.truncate(to),
+        2 => drop(bytes.drain(from..near)),
+        3 => drop(bytes.splice(to..to, bytes[from..near].to_vec())),
+        4 => drop(bytes.splice(from..near, random.bytes(some))),
+        5 => random.fill(&mut bytes[from..near]),
+        6 | 7 => bytes.extend(random.bytes(some)),
+        8..=10 => {
+            let i = 1 + random.up_to(log.count() - 1);
+            let at = log.end(random.up_to(log.count())).min(len);
+            drop(bytes.splice(at..at, entry(log, i).to_vec()));
+        }
+        _ if from < len => bytes[from] ^= MASKS[random.up_to(MASKS.len() - 1)],
+        _ => (),
     }
+}
+
+/// The counts are spread, and often only a part of the bytes counts.
+#[test]
+fn edited_logs_and_random_bytes_count_as_the_model_counts_them() {
+    let mut random = Random::new(11);
+    let log = logs::log(300, &mut random);
+    let mut met = [0; 301];
+    let mut stopped = 0;
+    for round in 0..4_000 {
+        let most = *random.one_of(&[2, 12, 12, 40, 40, 300]);
+        let mut bytes = log.beginning(random.up_to(most)).to_vec();
+        for _ in 0..random.up_to(2) {
+            edit(&mut bytes, &log, &mut random);
+        }
+        let (count, end) = audit(&bytes, || format!("round {round}: {bytes:02x?}"));
+        met[count] += 1;
+        stopped += usize::from(0 < end && end < bytes.len());
+    }
+    let different = met.iter().filter(|&&times| times > 0).count();
+    assert!(different > 150, "{different} counts");
+    assert!(met[1..=12].iter().all(|&times| times > 40), "{met:?}");
+    assert!(met[0] < 2_000, "nothing counts {} times", met[0]);
+    assert!(stopped > 1_500, "a part counts {stopped} times");
 }
 
 /// The bytes of entry i of a log.
