@@ -3,9 +3,12 @@
  * answer, and what the lent bytes must be afterwards. tests/src/cases/file.rs writes the file, and
  * says how.
  *
- * Each slice is lent from memory of exactly its length, so that a checker of memory sees each byte
- * that is read or written outside.
+ * Each slice is lent from an allocation of exactly its length, so that a checker of memory sees each
+ * byte that is read or written outside, and says which one. A slice of no bytes is lent between two
+ * closed pages: an allocation of no bytes may be null, which a pointer of this interface never is.
  */
+
+#define _DEFAULT_SOURCE /* MAP_ANONYMOUS is in no standard of C */
 
 #include "ringlog.h"
 
@@ -16,6 +19,8 @@
 #include <stdio.h>
 #include <stdlib.h>
 #include <string.h>
+#include <sys/mman.h>
+#include <unistd.h>
 
 #define MOST_SLICES 3
 #define MOST_NUMBERS 2
@@ -56,6 +61,9 @@ struct trial {
 
 static FILE *file;
 
+/* Where a slice of no bytes is lent. Who touches the byte there, or the one before, gets a signal. */
+static uint8_t *closed;
+
 static void give_up(const char *why)
 {
     printf("%s\n", why);
@@ -88,16 +96,35 @@ static bool at_end(void)
     return next == EOF || ungetc(next, file) == EOF;
 }
 
+/* The address between two closed pages. */
+static uint8_t *close_pages(void)
+{
+    const size_t page = (size_t)sysconf(_SC_PAGESIZE);
+    uint8_t *pages = mmap(NULL, 2 * page, PROT_NONE, MAP_PRIVATE | MAP_ANONYMOUS, -1, 0);
+
+    if (pages == MAP_FAILED) {
+        give_up("no closed pages");
+    }
+    return pages + page;
+}
+
 /* Memory of so many bytes, read from the file. It is not null, also for none. */
 static uint8_t *read_memory(size_t len)
 {
-    uint8_t *memory = malloc(len == 0 ? 1 : len);
+    uint8_t *memory = len == 0 ? closed : malloc(len);
 
     if (memory == NULL) {
         give_up("no memory");
     }
     read_bytes(memory, len);
     return memory;
+}
+
+static void free_memory(uint8_t *memory)
+{
+    if (memory != closed) {
+        free(memory);
+    }
 }
 
 static void read_trial(struct trial *trial)
@@ -132,8 +159,8 @@ static void read_trial(struct trial *trial)
 static void free_trial(struct trial *trial)
 {
     for (size_t i = 0; i < lends[trial->call].slices; i++) {
-        free(trial->slice[i].bytes);
-        free(trial->slice[i].afterwards);
+        free_memory(trial->slice[i].bytes);
+        free_memory(trial->slice[i].afterwards);
     }
 }
 
@@ -251,6 +278,7 @@ int main(int argc, char **argv)
     if (file == NULL) {
         give_up("driver FILE");
     }
+    closed = close_pages();
     while (!at_end()) {
         struct trial trial = {0};
 

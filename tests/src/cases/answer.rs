@@ -84,6 +84,11 @@ impl Done {
         Done { answer, memory }
     }
 
+    /// What the library answers where the slices are lent from this memory, in the case's order.
+    pub fn answer_from(case: &Case, lent: &mut [&mut [u8]]) -> Answer {
+        by_library(case.call, lent, &case.numbers)
+    }
+
     /// The lent slices afterwards.
     pub fn lent(&self) -> impl Iterator<Item = &[u8]> {
         self.memory.iter().map(Memory::lent)

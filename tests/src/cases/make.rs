@@ -8,11 +8,12 @@ use crate::random::Random;
 use crate::splits::count;
 
 impl Case {
-    /// The case of this number of a seed. It rests on the two alone.
+    /// The case of this number of a seed. It rests on the two alone. Now and then one of its slices has
+    /// no bytes.
     pub fn of(seed: u64, number: u64) -> Case {
         let random = &mut Random::of_case(seed, number);
         let call = *random.one_of(&Call::ALL);
-        let (lent, numbers) = match call {
+        let (mut lent, numbers) = match call {
             Call::Sha256 => (vec![message(random)], vec![]),
             Call::Append => append(random),
             Call::Audit | Call::Root => (vec![log_and_index(random).0], vec![]),
@@ -25,6 +26,10 @@ impl Case {
                 (vec![first, second], vec![])
             }
         };
+        if random.up_to(19) == 0 {
+            let slice = random.up_to(lent.len() - 1);
+            lent[slice].clear();
+        }
         Case {
             call,
             lent,
