@@ -108,15 +108,14 @@ static uint8_t *close_pages(void)
     return pages + page;
 }
 
-/* Memory of so many bytes, read from the file. It is not null, also for none. */
-static uint8_t *read_memory(size_t len)
+/* Memory of so many bytes. It is not null, also for none. */
+static uint8_t *get_memory(size_t len)
 {
     uint8_t *memory = len == 0 ? closed : malloc(len);
 
     if (memory == NULL) {
         give_up("no memory");
     }
-    read_bytes(memory, len);
     return memory;
 }
 
@@ -127,6 +126,24 @@ static void free_memory(uint8_t *memory)
     }
 }
 
+static void read_slice(struct slice *slice)
+{
+    size_t at;
+    size_t len;
+
+    slice->len = read_number();
+    slice->bytes = get_memory(slice->len);
+    read_bytes(slice->bytes, slice->len);
+    slice->afterwards = get_memory(slice->len);
+    memcpy(slice->afterwards, slice->bytes, slice->len);
+    at = read_number();
+    len = read_number();
+    if (at > slice->len || len > slice->len - at) {
+        give_up("a slice is longer afterwards");
+    }
+    read_bytes(slice->afterwards + at, len);
+}
+
 static void read_trial(struct trial *trial)
 {
     trial->number = read_number();
@@ -135,11 +152,7 @@ static void read_trial(struct trial *trial)
         give_up("the file has a call that is not known");
     }
     for (size_t i = 0; i < lends[trial->call].slices; i++) {
-        struct slice *slice = &trial->slice[i];
-
-        slice->len = read_number();
-        slice->bytes = read_memory(slice->len);
-        slice->afterwards = read_memory(slice->len);
+        read_slice(&trial->slice[i]);
     }
     if (read_number() != lends[trial->call].numbers) {
         give_up("a call has too many numbers or too few");

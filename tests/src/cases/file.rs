@@ -4,7 +4,8 @@
 //!
 //! - the number of the case in its seed;
 //! - the call, from 0, in the order of include/ringlog.h;
-//! - how many slices are lent, and for each its length, its bytes, and its bytes afterwards;
+//! - how many slices are lent, and for each its length and its bytes; then, of what is other
+//!   afterwards, where it begins, how long it is, and its bytes;
 //! - how many other numbers are lent, and these;
 //! - how many fields the answer has, and these, a digest byte by byte.
 
@@ -21,7 +22,9 @@ pub fn write(seed: u64, numbers: Range<u64>, file: &mut impl Write) -> io::Resul
         for (bytes, afterwards) in case.lent.iter().zip(done.lent()) {
             put(file, [bytes.len() as u64])?;
             file.write_all(bytes)?;
-            file.write_all(afterwards)?;
+            let other = other(bytes, afterwards);
+            put(file, [other.start as u64, other.len() as u64])?;
+            file.write_all(&afterwards[other])?;
         }
         put(file, [case.numbers.len() as u64])?;
         put(file, case.numbers.iter().map(|&number| number as u64))?;
@@ -30,6 +33,16 @@ pub fn write(seed: u64, numbers: Range<u64>, file: &mut impl Write) -> io::Resul
         put(file, fields)?;
     }
     Ok(())
+}
+
+/// From the first place at which the bytes are other ones afterwards to the last one.
+fn other(bytes: &[u8], afterwards: &[u8]) -> Range<usize> {
+    let differ = |&at: &usize| bytes[at] != afterwards[at];
+    let first = (0..bytes.len()).find(differ);
+    let last = (0..bytes.len()).rfind(differ);
+    first
+        .zip(last)
+        .map_or(0..0, |(first, last)| first..last + 1)
 }
 
 fn put(file: &mut impl Write, numbers: impl IntoIterator<Item = u64>) -> io::Result<()> {

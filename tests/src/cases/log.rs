@@ -12,11 +12,13 @@ use crate::random::Random;
 use crate::ways::only_met;
 use crate::{pairs, refused};
 
-/// The most values of a log that is made anew: few, now and then some dozens, rarely some hundreds.
+/// The most values of a log that is made anew: few, now and then some dozens, rarely some hundreds,
+/// and once in a while as many as a log can have.
 pub fn most_values(random: &mut Random) -> usize {
-    match random.up_to(99) {
-        0 => 600,
-        1..=19 => 70,
+    match random.up_to(999) {
+        0 => MOST,
+        1..=10 => 600,
+        11..=199 => 70,
         _ => 12,
     }
 }
