@@ -51,6 +51,7 @@ pub fn fold(n: u32, i: u32, leaf: [u8; 32], proof: &[u8]) -> [u8; 32]
     let mut at = 0;
     for p in 0..MAX_HEIGHT {
         let x = way_position(last, target, p + 1);
+        // No node of height p + 1 is on the way.
         if digit(x, p) == 0 {
             continue;
         }
