@@ -1,8 +1,9 @@
 #!/usr/bin/env python3
 """ringaudit.py: tests the command ringaudit: what it prints, where, and its status.
 
-Most calls are of the repository's own command, with the program proved before. A first run, and proofs and programs
-that fail, are tried on a copy of the command beside a stand-in for rt. The last line is "N passed, M failed".
+Most calls are of the repository's own command, with the program proved before. A first run, proofs and programs that
+fail, and many file names are tried on a copy of the command beside a stand-in for rt. The last line is "N passed, M
+failed".
 """
 import os
 import pty
@@ -202,12 +203,13 @@ def a_dash_is_standard_input():
 def any_file_name_can_be_given():
     folder = scratch / "odd names"
     folder.mkdir()
+    command = stand_in(UNCHANGED)
     for name in ["two words", " * ", "line\nline", "end\n", "\\n", "-", "-x", "--", "'", '"$0"']:
         shutil.copy(WHOLE, folder / name)
-        expect(call(folder / name), 0, WHOLE_TEXT)
-        expect(call("./" + name, cwd=folder), 0, WHOLE_TEXT)
+        expect(call(folder / name, **command), 0, WHOLE_TEXT)
+        expect(call("./" + name, cwd=folder, **command), 0, WHOLE_TEXT)
     for words in [["--", "-x"], ["--", "--"], ["two words"]]:
-        expect(call(*words, cwd=folder), 0, WHOLE_TEXT)
+        expect(call(*words, cwd=folder, **command), 0, WHOLE_TEXT)
 
 
 @test
