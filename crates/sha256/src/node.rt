@@ -1,6 +1,6 @@
 // The two blocks of a node's padded input, which is a tag byte and two digests. Their words are made
-// from the digests where these stand: an input that was put together first would be read back before
-// the processor has stored it.
+// from the digests where these stand: an input that was put together first would be read back right
+// after its bytes were copied, and we think that the processor would wait for them.
 ghost use mathlib.Core.Path.{_≡_};
 ghost use mathlib.Core.List.{List, _++_, _∷_};
 ghost use Prim.Native.Nat.{ℕ, _<_};
