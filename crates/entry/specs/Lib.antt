@@ -3,6 +3,7 @@ pub mod Kind
 pub mod Log
 pub mod Next
 pub mod Read
+pub mod Reasons
 pub mod Refusal
 pub mod Shape
 pub mod Siblings

@@ -1,3 +1,4 @@
+pub mod Answers
 pub mod Bitwise
 pub mod DigestBytes
 pub mod Inputs

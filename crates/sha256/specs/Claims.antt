@@ -1,9 +1,12 @@
 -- What is claimed of the definition of SHA-256: each claim is a type, and proofs/ has its proof.
-use mathlib.Core.List.{List, [], _∷_}
+use mathlib.Core.List.{List, [], _∷_, _++_}
 use mathlib.Core.Path.{_≡_}
 use Prim.Native.Nat.{ℕ, _+_, _*_, _-_, _%_, _≤_, _<_}
-use lib.ListN.{length, getD}
+use lib.ListN.{length, getD, replicate}
+use Rattle.sha256.specs.Answer.{hashed, tagged}
 use Rattle.sha256.specs.Fips180.{W, add32, bytesOf, padded, sha256, zeroBits, σ0, σ1}
+use Rattle.sha256.specs.Reasons.{Decided, Reason}
+use Rattle.sha256.specs.declared.Hashed.{Hashed}
 
 -- a digest has 32 bytes
 abbrev pub DigestLength : Type 0
@@ -51,3 +54,17 @@ Vectors =
     × (sha256 []
     ≡ bytesOf (0xe3b0c442 ∷ 0x98fc1c14 ∷ 0x9afbf4c8 ∷ 0x996fb924 ∷ 0x27ae41e4 ∷ 0x649b934c ∷ 0xa495991b ∷ 0x7852b855 ∷ []))
     × (sha256 abcdbcde ≡ bytesOf (0x248d6a61 ∷ 0xd20638b8 ∷ 0xe5c02693 ∷ 0x0c3e6039 ∷ 0xa33ce459 ∷ 0x64ff2167 ∷ 0xf6ecedd4 ∷ 0x19db06c1 ∷ []))
+
+-- ---- what the calls answer
+
+-- over 65,535 bytes number 1 and 32 zero bytes, else number 0 and the digest
+abbrev pub HashedDecided : Type 0
+HashedDecided =
+    (m : List ℕ)
+    → Decided (record { answer = record { number = 1; digest = replicate 32 0 }; when = 65535 < length m } ∷ [])
+    (λ a. a ≡ record { number = 0; digest = sha256 m })
+    (hashed m)
+
+-- the tag byte is hashed before the two parts
+abbrev pub TaggedHash : Type 0
+TaggedHash = (tag : ℕ) (x y : List ℕ) → tagged tag x y ≡ sha256 ((tag ∷ x) ++ y)

@@ -3,6 +3,7 @@ pub mod Claims
 pub mod Fips180
 pub mod Input
 pub mod Pick
+pub mod Reasons
 pub mod Rounds
 pub mod Store
 pub mod Window
