@@ -6,7 +6,10 @@ pub mod FieldForms
 pub mod Fields
 pub mod FirstValues
 pub mod Items
+pub mod LayoutFields
+pub mod LayoutShape
 pub mod Lengths
+pub mod Lies
 pub mod LogBytes
 pub mod LogDescent
 pub mod LogShape
@@ -17,6 +20,7 @@ pub mod PathForms
 pub mod PathSiblings
 pub mod Reached
 pub mod Refusals
+pub mod ShapeClaims
 pub mod ShapeForms
 pub mod Shaped
 pub mod Stands

@@ -1,5 +1,6 @@
 pub mod Claims
 pub mod Kind
+pub mod Layout
 pub mod Log
 pub mod Next
 pub mod Read
