@@ -1,10 +1,12 @@
 pub mod Claimed
+pub mod DescentLinks
 pub mod Descents
 pub mod EntryNodes
 pub mod Equality
 pub mod FieldForms
 pub mod Fields
 pub mod FirstValues
+pub mod ItemClaims
 pub mod Items
 pub mod LayoutFields
 pub mod LayoutShape

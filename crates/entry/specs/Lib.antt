@@ -1,6 +1,7 @@
 pub mod Claims
 pub mod Kind
 pub mod Layout
+pub mod Linked
 pub mod Log
 pub mod Next
 pub mod Read
