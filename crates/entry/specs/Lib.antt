@@ -1,3 +1,4 @@
+pub mod BenchSheet
 pub mod Claims
 pub mod Kind
 pub mod Layout

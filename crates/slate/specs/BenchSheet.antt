@@ -1,8 +1,8 @@
 -- Document 01's bench sheet: the nine lines marked P, as one list under a single claim.
 use mathlib.Core.List.{List, [], _∷_, _++_}
 use mathlib.Core.Path.{_≡_}
-use Prim.Native.Nat.{ℕ, zero, suc}
-use lib.ListN.{replicate}
+use Prim.Native.Nat.{ℕ, zero, suc, _<_}
+use lib.ListN.{length, getD}
 use Rattle.slate.specs.Address.{Node, nodes}
 use Rattle.slate.specs.Length.{offset}
 use Rattle.slate.specs.Moves.{hops, lefts}
@@ -10,10 +10,6 @@ use Rattle.slate.specs.Moves.{hops, lefts}
 -- the node of height h with left (l,k)
 abbrev pub node : ℕ → ℕ → ℕ → Node
 node h l k = record { height = h; leftIndex = l; leftHeight = k }
-
--- m taps: the value item of a tap is 0x10 and 8 bytes
-abbrev pub taps : ℕ → List (List ℕ)
-taps m = replicate m (0x10 ∷ replicate 8 0)
 
 -- where the first m entries begin
 abbrev pub offsets : List (List ℕ) → ℕ → List ℕ
@@ -27,11 +23,13 @@ pub data Line : Type 0 where
   hopsAre : (n i h : ℕ) → Line
   tapsBegin : (m : ℕ) (begins : List ℕ) (end : ℕ) → Line
 
-abbrev pub LineHolds : Line → Type 0
-LineHolds (entryHas i ns) = nodes i ≡ ns
-LineHolds (hopsAndLefts n i h l) = (hops n i ≡ h) × (lefts n i ≡ l)
-LineHolds (hopsAre n i h) = hops n i ≡ h
-LineHolds (tapsBegin m begins end) = (offsets (taps m) m ≡ begins) × (offset (taps m) m ≡ end)
+-- for any values of which `Tap` says that they are taps
+abbrev pub LineHolds : (List ℕ → Type 0) → Line → Type 0
+LineHolds Tap (entryHas i ns) = nodes i ≡ ns
+LineHolds Tap (hopsAndLefts n i h l) = (hops n i ≡ h) × (lefts n i ≡ l)
+LineHolds Tap (hopsAre n i h) = hops n i ≡ h
+LineHolds Tap (tapsBegin m begins end) =
+    (vs : List (List ℕ)) → length vs ≡ m → ((k : ℕ) → k < m → Tap (getD vs k [])) → (offsets vs m ≡ begins) × (offset vs m ≡ end)
 
 abbrev pub sheet : List Line
 sheet =
@@ -51,5 +49,9 @@ Each P [] = Unit {0}
 Each P (l ∷ ls) = P l × Each P ls
 
 -- every line of the sheet holds for the written rules
+abbrev pub SheetHolds : (List ℕ → Type 0) → Type 0
+SheetHolds Tap = Each (LineHolds Tap) sheet
+
+-- with payloads of 9 bytes for taps; crates/entry has it for value items of kind 0x10
 abbrev pub BenchSheet : Type 0
-BenchSheet = Each LineHolds sheet
+BenchSheet = SheetHolds (λ v. length v ≡ 9)
