@@ -1,10 +1,11 @@
 // The lines of document 01's bench sheet that are to be run, each with what the library answers. The
-// nine lines marked P are one theorem (crates/slate/specs/BenchSheet.antt); what they say of moves and
+// nine lines marked P are one theorem (crates/entry/specs/BenchSheet.antt); what they say of moves and
 // of eight taps is run here too, and so are the two calls that return a part of a log, which C cannot
 // call. NIST's vectors of the hash are run by sha256_vectors.
 mod print;
 
 ghost use Rattle.io.specs.Counts.{Counts};
+use entry::kind::Kind;
 use inclusion::proof;
 use inclusion::value;
 use inclusion::value_number;
@@ -25,6 +26,7 @@ const SEVEN_TAPS: usize = 994;
 const TICKETS: usize = 2097152;
 
 fn main() {
+    run_kinds();
     run_moves();
     run_eight_taps();
     let mut log = [0u8; TICKETS];
@@ -67,6 +69,24 @@ fn appended(buffer: &mut [u8], item: &[u8], count: usize) -> usize
         }
     }
     used
+}
+
+// The table of items: each kind of the list, and the length of its body.
+fn run_kinds() {
+    let kinds = Kind::all();
+    print_kind(kinds[0]);
+    print_kind(kinds[1]);
+    print_kind(kinds[2]);
+    print_kind(kinds[3]);
+    print_kind(kinds[4]);
+    print_kind(kinds[5]);
+    print_kind(kinds[6]);
+}
+
+fn print_kind(byte: u8) {
+    print_text(b"kind ");
+    print_number(byte as usize);
+    print_line(b": body ", (Kind { byte: byte }).body_len());
 }
 
 fn run_moves() {
