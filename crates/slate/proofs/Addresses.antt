@@ -1,7 +1,7 @@
 -- Node addresses, indexes from 1 with a height, against the recursion on the height at a position.
 -- Assumes nothing.
-use mathlib.Core.List.{List, []}
-use mathlib.Core.Path.{_≡_, refl, ap₂, _∙_}
+use mathlib.Core.List.{List, [], _∷_, _++_}
+use mathlib.Core.Path.{_≡_, refl, ap, ap₂, _∙_}
 use Prim.Native.Nat.{ℕ, zero, suc, _+_, _*_, _-_, _%_, _^_, _≤_, _<_}
 use native.Mathlib.Nat.{mod-lt, mod-one, pow-suc}
 use native.Mathlib.Omega.{arith}
@@ -13,10 +13,11 @@ use Rattle.sha256.specs.Fips180.{sha256}
 use Rattle.slate.specs.Address.{HasNode, Node, highest, input, nodesBelow}
 use Rattle.slate.specs.Claims as claims
 use Rattle.slate.specs.Digits.{base, digit, left, maxHeight, onesBelow}
-use Rattle.slate.specs.Tree.{Rule, nodeInput, top}
+use Rattle.slate.specs.Tree.{Rule, nodeInput, slate, top}
 use Rattle.slate.proofs.Bits.{base-le, left-pos, left-present, mod-step, onesBelow-mono, whole-base}
 use Rattle.slate.proofs.Cases.{by-digit, by-order}
-use Rattle.slate.proofs.Tops.{root-top, top-highest}
+use Rattle.slate.proofs.Lists.{bytes-append, bytes-cons}
+use Rattle.slate.proofs.Tops.{root-top, top-bytes, top-highest}
 
 -- ---- the highest node of height at most h at position x
 
@@ -93,11 +94,18 @@ unfolding highest
 left-highest x zero d = refl
 left-highest x (suc p) d = rw (left-present x p d)
 
-left-top : (pre : Rule) (vs : List (List ℕ)) (x p : ℕ) → digit x p ≡ 1
+pub left-top : (pre : Rule) (vs : List (List ℕ)) (x p : ℕ) → digit x p ≡ 1
     → top pre vs (left x p) p ≡ sha256 (input pre vs (left x p) p)
 left-top pre vs x p d = rw (left-highest x p d) at (top-highest pre vs (left x p) p)
 
 -- ---- addresses
+
+pub leaf-present : claims.LeafPresent
+leaf-present m i = (λ a b. record { low = a; high = b; node = tt }, λ at. (at .low, at .high))
+
+pub node-present : claims.NodePresent
+unfolding digit
+node-present m i p = (λ a b d. record { low = a; high = b; node = d }, λ at. (at .low, at .high, at .node))
 
 -- both children of a node present are present
 pub children-present : claims.ChildrenPresent
@@ -122,11 +130,26 @@ unfolding base input left
 node-input pre vs m i p w =
     ap₂ (nodeInput pre (suc p)) (left-top pre vs (i - 1) p (w .node)) (top-highest pre vs (i - 1) p)
 
+-- in bytes
+pub leaf-bytes : claims.LeafBytes
+unfolding input
+leaf-bytes vs i = (refl, refl)
+
+pub node-bytes : claims.NodeBytes
+node-bytes vs m i p at = let e = node-input slate vs m i p at in (e, ap sha256 e)
+
+pub top-digest : claims.TopDigest
+top-digest pre vs i h = top-highest pre vs (i - 1) h
+
 -- the root is the digest of the last entry's highest node
 pub root-digest : claims.RootDigest
 root-digest pre vs x n =
     let e : suc x - 1 ≡ x = omega arith in
     rw e (root-top pre vs x n ∙ top-highest pre vs x maxHeight)
+
+pub root-of-one : claims.RootOfOne
+unfolding digit highest input maxHeight
+root-of-one v = root-digest slate (v ∷ []) 0 refl
 
 -- ---- the list of an entry's nodes
 
@@ -209,3 +232,15 @@ unfolding base
 listed-present m i k d low high lt =
     let r = listed-node (i - 1) maxHeight k d lt in
     rw (r .is) (record { low = low; high = high; node = r .set }, refl, refl)
+
+-- ---- what is hashed is bytes: a height is one
+
+pub input-bytes : claims.InputBytes
+unfolding input maxHeight
+input-bytes vs m i zero small at b = bytes-cons 0 (getD vs (i - 1) []) (omega arith) b
+input-bytes vs m i (suc p) small at b =
+    let l : List ℕ = top slate vs (left (i - 1) p) p in
+    let r : List ℕ = top slate vs (i - 1) p in
+    let low : p < maxHeight = set-below (i - 1) maxHeight p (omega (arith, at .low, at .high)) (at .node) in
+    bytes-cons (suc p) (l ++ r) (omega arith)
+    (bytes-append l r (top-bytes slate vs (left (i - 1) p) p) (top-bytes slate vs (i - 1) p))

@@ -17,6 +17,12 @@ use Rattle.slate.proofs.Cases.{by-digit, by-equal, by-order}
 use Rattle.slate.proofs.Lists.{append-inj}
 use Rattle.slate.proofs.Tops.{top-length}
 
+pub clash-when : claims.ClashWhen
+clash-when pre vs ws = (
+  λ i h a b n e. record { index = i; height = h; first = a; second = b; inputs = n; digests = e },
+  λ c. (c .index, c .height, c .first, c .second, c .inputs, c .digests),
+)
+
 module _ (pre : Rule) (vs ws : List (List ℕ)) where
   -- two inputs with one digest at the same place are a clash
   clash-at : (x h : ℕ) → x < length vs → x < length ws → HasNode x h → (input pre vs x h ≡ input pre ws x h → ⊥)

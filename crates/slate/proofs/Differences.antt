@@ -2,14 +2,15 @@
 -- Assumes nothing.
 use mathlib.Core.List.{List}
 use mathlib.Core.Logic.{inl}
-use mathlib.Core.Path.{_≡_, sym, ap, ap₂, _∙_}
-use Prim.Native.Nat.{ℕ, zero, suc}
+use mathlib.Core.Path.{_≡_, refl, sym, ap, ap₂, _∙_}
+use Prim.Native.Nat.{ℕ, zero, suc, _-_}
 use native.Mathlib.Omega.{arith}
 use Rattle.sha256.specs.Fips180.{sha256}
 use Rattle.slate.specs.Claims as claims
 use Rattle.slate.specs.Difference.{differingLeaf}
 use Rattle.slate.specs.Digits.{base, digit, left}
 use Rattle.slate.specs.Tree.{Rule, leafInput, nodeInput, top}
+use Rattle.slate.proofs.Addresses.{left-top, to-highest}
 use Rattle.slate.proofs.Bits.{base-zero, left-base, left-end, left-lt, left-pred, no-left}
 use Rattle.slate.proofs.Cases.{by-digit, by-equal}
 use Rattle.slate.proofs.Clashes.{same-joined, tops-values}
@@ -37,6 +38,19 @@ module _ (pre : Rule) (vs ws : List (List ℕ)) (x p : ℕ) where
         → top pre vs x p ≡ top pre ws x p → ⊥
     right-differs e n q =
         n (top-set pre vs x p d ∙ ap₂ (λ (l r : List ℕ). sha256 (nodeInput pre (suc p) l r)) e q ∙ sym (top-set pre ws x p d))
+
+pub leaf-by-digests : claims.LeafByDigests
+unfolding base differingLeaf left
+leaf-by-digests pre vs ws = (
+  λ i. refl,
+  λ m i p at.
+      let l = left-top pre vs (i - 1) p (at .node) in
+      let r = left-top pre ws (i - 1) p (at .node) in
+      let low = to-highest (i - 1) (differingLeaf pre vs ws (i - 1)) (leaf-none pre vs ws (i - 1)) p in (
+        λ n. leaf-left pre vs ws (i - 1) p (at .node) (λ e. n (sym l ∙ e ∙ r)),
+        λ e. leaf-right pre vs ws (i - 1) p (at .node) (l ∙ e ∙ sym r) ∙ low,
+      ),
+)
 
 pub leaf-under : claims.LeafUnder
 unfolding differingLeaf

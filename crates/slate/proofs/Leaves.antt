@@ -1,7 +1,7 @@
 -- The leaves under a node are a run of positions that ends with its own.
 -- Assumes nothing.
-use mathlib.Core.List.{_++_}
-use mathlib.Core.Path.{_≡_, ap, _∙_}
+use mathlib.Core.List.{List, _++_}
+use mathlib.Core.Path.{_≡_, refl, ap, _∙_}
 use Prim.Native.Nat.{ℕ, zero, suc, _+_, _-_, _<_}
 use native.Mathlib.Omega.{arith}
 use lib.ListN.{length, getD, length-append, List·getD-append}
@@ -9,6 +9,7 @@ use lib.Seq.{getD-append-add}
 use Rattle.slate.specs.Address.{leavesFrom}
 use Rattle.slate.specs.Claims as claims
 use Rattle.slate.specs.Digits.{base, left}
+use Rattle.slate.proofs.Addresses.{to-highest}
 use Rattle.slate.proofs.Bits.{base-le, base-zero, left-base, left-pred, no-left}
 use Rattle.slate.proofs.Cases.{by-digit, by-order}
 
@@ -46,3 +47,12 @@ pub leaves-under : claims.LeavesUnder
 unfolding base
 leaves-under i h first =
     (omega (arith, leaves-length (i - 1) h, base-le (i - 1) h), λ k lt. omega (arith, leaves-at (i - 1) h k lt))
+
+pub leaves-of-children : claims.LeavesOfChildren
+unfolding base left leavesFrom
+leaves-of-children = (
+  λ i. refl,
+  λ m i p at.
+      let e = to-highest (i - 1) (leavesFrom (i - 1)) (λ q d. rw d) p in
+      rw (at .node) (ap (λ (l : List ℕ). leavesFrom (left (i - 1) p) p ++ l) e),
+)

@@ -19,3 +19,4 @@ pub mod Outside
 pub mod PartialTree
 pub mod Tops
 pub mod WayUp
+pub mod Ways

@@ -11,6 +11,7 @@ use lib.Dec.{eqb}
 use lib.ListN.{length, getD, take, drop, length-take, length-drop, List·getD-eq-default}
 use lib.Seq.{drop-at, drop-drop, getD-drop, getD-take, take-all, take-at, take-take}
 use Rattle.slate.specs.Bytes.{Bytes, part, same}
+use Rattle.slate.specs.Claims as claims
 use Rattle.slate.proofs.Cases.{by-bool, by-order, true-false}
 
 -- ---- the test that two lists are equal
@@ -51,6 +52,9 @@ part-size b o n = simp (length-take, length-drop)
 pub part-is : (p m r : List ℕ) (o n : ℕ) → length p ≡ o → length m ≡ n → part (p ++ (m ++ r)) o n ≡ m
 unfolding part
 part-is p m r o n l k = rw (drop-at p (m ++ r) o l) (take-at m r n k)
+
+pub parts : claims.Parts
+parts = (λ a b c. part-is a b c (length a) (length b) refl refl, part-size)
 
 take-inside : (k m n : ℕ) (l : List ℕ) → k + m ≤ n → take m (drop k (take n l)) ≡ take m (drop k l)
 take-inside zero m n l h = take-take m n l (omega arith)
@@ -96,6 +100,9 @@ append-inj n a b c d k l e =
 pub bytes-cons : (x : ℕ) (l : List ℕ) → x < 256 → Bytes l → Bytes (x ∷ l)
 bytes-cons x l h b zero = h
 bytes-cons x l h b (suc i) = b i
+
+pub byte-lists : claims.ByteLists
+byte-lists = (λ i. omega arith, bytes-cons, λ x l b. (b 0, λ i. b (suc i)))
 
 pub bytes-append : (a b : List ℕ) → Bytes a → Bytes b → Bytes (a ++ b)
 bytes-append [] b ha hb i = hb i

@@ -1,23 +1,56 @@
 -- What is claimed of the tree's definitions: each claim is a type, and proofs/ has its proof.
-use mathlib.Core.List.{List, []}
+use mathlib.Core.List.{List, [], _∷_, _++_}
 use mathlib.Core.Logic.{_⊎_}
 use mathlib.Core.Path.{_≡_}
-use Prim.Native.Nat.{ℕ, suc, _+_, _*_, _-_, _^_, _≤_, _<_, min}
+use Prim.Native.Nat.{ℕ, suc, _+_, _*_, _-_, _/_, _%_, _^_, _≤_, _<_, min}
 use lib.Count.{ones}
-use lib.ListN.{length, getD}
+use lib.ListN.{length, getD, replicate}
+use Rattle.sha256.specs.Fips180.{sha256}
 use Rattle.slate.specs.Address.{HasNode, Node, Present, digestOf, firstLeaf, hashInput, highest, leavesFrom, leftChild, nodes, rightHeight}
+use Rattle.slate.specs.Bytes.{Bytes, part}
 use Rattle.slate.specs.Clash.{Clash, Same}
 use Rattle.slate.specs.Comparison.{compared, differAt, equal, firstShorter, secondShorter}
 use Rattle.slate.specs.Difference.{differingLeaf}
 use Rattle.slate.specs.Digits.{base, digit, maxHeight, onesBelow}
-use Rattle.slate.specs.Length.{entryLen}
+use Rattle.slate.specs.Length.{entryLen, offset}
 use Rattle.slate.specs.Moves.{hops, hopsFrom, lefts, leftsFrom, splitBit}
 use Rattle.slate.specs.Path.{fold, path}
-use Rattle.slate.specs.Tree.{Rule, leafInput, nodeInput, root, top}
+use Rattle.slate.specs.Tree.{Rule, leafInput, nodeInput, root, slate, top}
+use Rattle.slate.specs.Way.{Address, Way, digests, foldUp}
+
+-- a log has at most 4,096 values
+abbrev pub Limit : Type 0
+Limit = 2 ^ maxHeight ≡ 4096
+
+-- each element of a list of bytes is a byte
+abbrev pub ByteLists : Type 0
+ByteLists =
+    Bytes []
+    × ((x : ℕ) (l : List ℕ) → x < 256 → Bytes l → Bytes (x ∷ l))
+    × ((x : ℕ) (l : List ℕ) → Bytes (x ∷ l) → (x < 256) × Bytes l)
+
+-- the n bytes from o on: those behind the first o, and no more than there are
+abbrev pub Parts : Type 0
+Parts =
+    ((a b c : List ℕ) → part (a ++ (b ++ c)) (length a) (length b) ≡ b)
+    × ((b : List ℕ) (o n : ℕ) → length (part b o n) ≡ min n (length b - o))
+
+-- ---- entries
+
+-- how many of the digits below h are set
+abbrev pub OnesBelow : Type 0
+OnesBelow = (x h : ℕ) → onesBelow x h ≡ ones (x % 2 ^ h)
 
 -- its length is 43 + value item + 70 times the number of ones in i − 1
 abbrev pub EntryLength : Type 0
 EntryLength = (n i : ℕ) → 1 ≤ i → i ≤ 2 ^ maxHeight → entryLen n (i - 1) ≡ 43 + n + 70 * ones (i - 1)
+
+-- the first entry begins at 0, and each other one where the one before it ends
+abbrev pub EntriesFollow : Type 0
+EntriesFollow =
+    (vs : List (List ℕ))
+    → (offset vs 0 ≡ 0)
+    × ((i : ℕ) → 1 ≤ i → i ≤ 2 ^ maxHeight → offset vs i ≡ offset vs (i - 1) + (43 + length (getD vs (i - 1) []) + 70 * ones (i - 1)))
 
 -- ---- moves, for 1 ≤ i ≤ n ≤ 4,096
 
@@ -35,6 +68,17 @@ abbrev pub LeftsFormula : Type 0
 LeftsFormula = (n i : ℕ) → 1 ≤ i → i ≤ n → n ≤ 2 ^ maxHeight → lefts n i ≡ leftsFrom (n - 1) maxHeight (i - 1)
 
 -- ---- addresses
+
+-- (i,h) is present in a log of m values when 1 ≤ i ≤ m and h is 0
+abbrev pub LeafPresent : Type 0
+LeafPresent = (m i : ℕ) → (1 ≤ i → i ≤ m → Present m i 0) × (Present m i 0 → (1 ≤ i) × (i ≤ m))
+
+-- or p + 1 for a set bit p of i − 1
+abbrev pub NodePresent : Type 0
+NodePresent =
+    (m i p : ℕ)
+    → (1 ≤ i → i ≤ m → (i - 1) / 2 ^ p % 2 ≡ 1 → Present m i (suc p))
+    × (Present m i (suc p) → (1 ≤ i) × (i ≤ m) × ((i - 1) / 2 ^ p % 2 ≡ 1))
 
 -- the list of the nodes of entry i has each node that is present, with its left child
 abbrev pub NodesListed : Type 0
@@ -70,6 +114,13 @@ LeavesUnder =
     → (length (leavesFrom (i - 1) h) ≡ suc i - firstLeaf i h)
     × ((k : ℕ) → k < length (leavesFrom (i - 1) h) → suc (getD (leavesFrom (i - 1) h) k 0) ≡ firstLeaf i h + k)
 
+-- the leaf (i,0) is the only one under itself, and a node has those of its left child, then those of its right child
+abbrev pub LeavesOfChildren : Type 0
+LeavesOfChildren =
+    ((i : ℕ) → leavesFrom (i - 1) 0 ≡ (i - 1) ∷ [])
+    × ((m i p : ℕ) → Present m i (suc p)
+    → leavesFrom (i - 1) (suc p) ≡ leavesFrom (leftChild i p - 1) p ++ leavesFrom (i - 1) (rightHeight i p))
+
 -- a leaf hashes its prefix and its value
 abbrev pub LeafInput : Type 0
 LeafInput = (pre : Rule) (vs : List (List ℕ)) (i : ℕ) → hashInput pre vs i 0 ≡ leafInput pre (getD vs (i - 1) [])
@@ -81,12 +132,53 @@ NodeInput =
     → hashInput pre vs i (suc p)
     ≡ nodeInput pre (suc p) (digestOf pre vs (leftChild i p) p) (digestOf pre vs i (rightHeight i p))
 
+-- leaf digest: SHA-256 of 0x00 and the value item, kind included
+abbrev pub LeafBytes : Type 0
+LeafBytes =
+    (vs : List (List ℕ)) (i : ℕ)
+    → (hashInput slate vs i 0 ≡ 0x00 ∷ getD vs (i - 1) []) × (digestOf slate vs i 0 ≡ sha256 (0x00 ∷ getD vs (i - 1) []))
+
+-- node digest: SHA-256 of the height as one byte, the left digest, the right digest
+abbrev pub NodeBytes : Type 0
+NodeBytes =
+    (vs : List (List ℕ)) (m i p : ℕ) → Present m i (suc p)
+    → (hashInput slate vs i (suc p) ≡ suc p ∷ (digestOf slate vs (leftChild i p) p ++ digestOf slate vs i (rightHeight i p)))
+    × (digestOf slate vs i (suc p) ≡ sha256 (suc p ∷ (digestOf slate vs (leftChild i p) p ++ digestOf slate vs i (rightHeight i p))))
+
+-- so all that is hashed is bytes where the values are
+abbrev pub InputBytes : Type 0
+InputBytes =
+    (vs : List (List ℕ)) (m i h : ℕ) → m ≤ 2 ^ maxHeight → Present m i h → Bytes (getD vs (i - 1) [])
+    → Bytes (hashInput slate vs i h)
+
+-- the root of an empty log is 32 zero bytes
+abbrev pub EmptyRoot : Type 0
+EmptyRoot = (pre : Rule) → root pre [] ≡ replicate 32 0
+
+-- the leaf digest is the root for n = 1
+abbrev pub RootOfOne : Type 0
+RootOfOne = (v : List ℕ) → root slate (v ∷ []) ≡ sha256 (0x00 ∷ v)
+
 -- the root is the digest of the last entry's top node
 abbrev pub RootDigest : Type 0
 RootDigest =
     (pre : Rule) (vs : List (List ℕ)) (x : ℕ) → length vs ≡ suc x → root pre vs ≡ digestOf pre vs (suc x) (highest x maxHeight)
 
 -- ---- tops and values
+
+-- a top is the digest of the highest node of height at most h
+abbrev pub TopDigest : Type 0
+TopDigest = (pre : Rule) (vs : List (List ℕ)) (i h : ℕ) → top pre vs (i - 1) h ≡ digestOf pre vs i (highest (i - 1) h)
+
+-- a clash of two logs is an address present in both whose hash inputs differ and whose digests are equal
+abbrev pub ClashWhen : Type 0
+ClashWhen =
+    (pre : Rule) (vs ws : List (List ℕ))
+    → ((i h : ℕ) → Present (length vs) i h → Present (length ws) i h → (hashInput pre vs i h ≡ hashInput pre ws i h → ⊥)
+    → sha256 (hashInput pre vs i h) ≡ sha256 (hashInput pre ws i h) → Clash pre vs ws)
+    × (Clash pre vs ws
+    → (i h : ℕ) × Present (length vs) i h × Present (length ws) i h × (hashInput pre vs i h ≡ hashInput pre ws i h → ⊥)
+    × (sha256 (hashInput pre vs i h) ≡ sha256 (hashInput pre ws i h)))
 
 -- a top depends on the values below it alone
 abbrev pub EqualValues : Type 0
@@ -100,6 +192,17 @@ EqualTops =
     → Same (base x h) (suc x) vs ws ⊎ Clash pre vs ws
 
 -- ---- the leaf under unequal tops to which the digests lead
+
+-- at a leaf it is the leaf; at a node it is under the left child where the left digests differ, and where they are equal under the right
+abbrev pub LeafByDigests : Type 0
+LeafByDigests =
+    (pre : Rule) (vs ws : List (List ℕ))
+    → ((i : ℕ) → differingLeaf pre vs ws (i - 1) 0 ≡ i - 1)
+    × ((m i p : ℕ) → Present m i (suc p)
+    → ((digestOf pre vs (leftChild i p) p ≡ digestOf pre ws (leftChild i p) p → ⊥)
+    → differingLeaf pre vs ws (i - 1) (suc p) ≡ differingLeaf pre vs ws (leftChild i p - 1) p)
+    × (digestOf pre vs (leftChild i p) p ≡ digestOf pre ws (leftChild i p) p
+    → differingLeaf pre vs ws (i - 1) (suc p) ≡ differingLeaf pre vs ws (i - 1) (rightHeight i p)))
 
 -- it is one of the leaves under them
 abbrev pub LeafUnder : Type 0
@@ -126,6 +229,27 @@ abbrev pub PathLength : Type 0
 PathLength =
     (pre : Rule) (vs : List (List ℕ)) (i : ℕ) → 1 ≤ i → i ≤ length vs → length vs ≤ 2 ^ maxHeight
     → length (path pre vs i) ≡ 32 * hops (length vs) i
+
+-- there is a way from leaf i up to the root of n values
+abbrev pub WayThere : Type 0
+WayThere = (n i : ℕ) → 1 ≤ i → i ≤ n → n ≤ 2 ^ maxHeight → (l : ℕ) × (s : List Address) × Way n i 0 l s
+
+-- hops(n,i) are the moves of the way, and lefts(n,i) those of them that go left
+abbrev pub WayMoves : Type 0
+WayMoves =
+    (n i l : ℕ) (s : List Address) → 1 ≤ i → i ≤ n → n ≤ 2 ^ maxHeight → Way n i 0 l s
+    → (hops n i ≡ length s) × (lefts n i ≡ l)
+
+-- the path is the digests of the siblings on the way, the one next to the leaf first
+abbrev pub PathSiblings : Type 0
+PathSiblings =
+    (pre : Rule) (vs : List (List ℕ)) (i l : ℕ) (s : List Address) → Way (length vs) i 0 l s → path pre vs i ≡ digests pre vs s
+
+-- a value folds with a proof, whatever it holds, along the way: from its leaf digest on
+abbrev pub FoldSteps : Type 0
+FoldSteps =
+    (n i l : ℕ) (s : List Address) (way : Way n i 0 l s) (v proof : List ℕ)
+    → fold slate n i v proof ≡ foldUp way (sha256 (0x00 ∷ v)) proof
 
 -- value i folds with its path to the root
 abbrev pub FoldPath : Type 0

@@ -10,3 +10,4 @@ pub mod Length
 pub mod Moves
 pub mod Path
 pub mod Tree
+pub mod Way
