@@ -8,6 +8,7 @@ use native.Mathlib.Omega.{arith}
 use lib.Arith.{mod-mul}
 use lib.Bits.{bitAnd, bitXor, and-block, and-lt, or-lt, or-shifted-r, xor-block, xor-comm, xor-lt, xor-mod, xor-shr}
 use lib.Pow.{mod-pow-add, ones-sub-lt, pow-add, pow-pos, shr-le, shr-shr}
+use Rattle.sha256.specs.Claims as claims
 use Rattle.sha256.specs.Fips180.{rotr, Ch, Maj}
 
 -- a formula of three words
@@ -134,3 +135,14 @@ pub three-rotations : (i j k : ℕ) {x : ℕ} → i + j + k ≤ 32 → x < 2 ^ 3
 three-rotations i j k l h =
     rw (rotr-sum i j (omega arith) (xor-lt 32 _ _ (rotr-lt k h) h) h, rotr-sum (i + j) k l h h)
     (xor-reversed (rotr-lt i h) (rotr-lt (i + j) h) (rotr-lt (i + j + k) h))
+
+-- of words the operations make words
+pub words-made : claims.WordsMade
+words-made n x y h j =
+    (mod-lt _ (pow-pos 32), mod-lt _ (pow-pos 32), omega (arith, shr-le x n), rotr-lt n h, ones-sub-lt 32 x)
+
+pub complement : claims.Complement
+complement x h = omega arith
+
+pub rotation : claims.Rotation
+rotation n x l h = rotr-is n (32 - n) (omega arith) h

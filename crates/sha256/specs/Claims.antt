@@ -1,10 +1,10 @@
 -- What is claimed of the definition of SHA-256: each claim is a type, and proofs/ has its proof.
 use mathlib.Core.List.{List, [], _∷_, _++_}
 use mathlib.Core.Path.{_≡_}
-use Prim.Native.Nat.{ℕ, _+_, _*_, _-_, _%_, _≤_, _<_}
+use Prim.Native.Nat.{ℕ, _+_, _*_, _-_, _/_, _%_, _^_, _≤_, _<_}
 use lib.ListN.{length, getD, replicate}
 use Rattle.sha256.specs.Answer.{hashed, tagged}
-use Rattle.sha256.specs.Fips180.{W, add32, bytesOf, padded, sha256, zeroBits, σ0, σ1}
+use Rattle.sha256.specs.Fips180.{W, add32, bytesOf, not32, padded, rotr, sha256, shl, shr, zeroBits, σ0, σ1}
 use Rattle.sha256.specs.Reasons.{Decided, Reason}
 use Rattle.sha256.specs.declared.Hashed.{Hashed}
 
@@ -15,6 +15,20 @@ DigestLength = (m : List ℕ) → length (sha256 m) ≡ 32
 -- and each is below 256
 abbrev pub DigestBytes : Type 0
 DigestBytes = (m : List ℕ) (i : ℕ) → getD (sha256 m) i 0 < 256
+
+-- 2.2.2: of words, numbers below 2^32, the operations make words
+abbrev pub WordsMade : Type 0
+WordsMade =
+    (n x y : ℕ) → x < 2 ^ 32 → y < 2 ^ 32
+    → (add32 x y < 2 ^ 32) × (shl n x < 2 ^ 32) × (shr n x < 2 ^ 32) × (rotr n x < 2 ^ 32) × (not32 x < 2 ^ 32)
+
+-- a word and its complement add up to 32 ones
+abbrev pub Complement : Type 0
+Complement = (x : ℕ) → x < 2 ^ 32 → x + not32 x ≡ 0xffffffff
+
+-- a rotation by n takes the last n digits of a word to its front
+abbrev pub Rotation : Type 0
+Rotation = (n x : ℕ) → n ≤ 32 → x < 2 ^ 32 → rotr n x ≡ x % 2 ^ n * 2 ^ (32 - n) + x / 2 ^ n
 
 -- 6.2.2, step 1, as the standard writes it: W_t = M_t for 0 ≤ t ≤ 15
 abbrev pub FirstWords : Type 0
