@@ -35,11 +35,7 @@ Parts =
     ((a b c : List ℕ) → part (a ++ (b ++ c)) (length a) (length b) ≡ b)
     × ((b : List ℕ) (o n : ℕ) → length (part b o n) ≡ min n (length b - o))
 
--- ---- entries
-
--- how many of the digits below h are set
-abbrev pub OnesBelow : Type 0
-OnesBelow = (x h : ℕ) → onesBelow x h ≡ ones (x % 2 ^ h)
+-- ---- entries: the length of one, and where it begins
 
 -- its length is 43 + value item + 70 times the number of ones in i − 1
 abbrev pub EntryLength : Type 0
@@ -79,6 +75,10 @@ NodePresent =
     (m i p : ℕ)
     → (1 ≤ i → i ≤ m → (i - 1) / 2 ^ p % 2 ≡ 1 → Present m i (suc p))
     × (Present m i (suc p) → (1 ≤ i) × (i ≤ m) × ((i - 1) / 2 ^ p % 2 ≡ 1))
+
+-- so many digits below h are set in x
+abbrev pub OnesBelow : Type 0
+OnesBelow = (x h : ℕ) → onesBelow x h ≡ ones (x % 2 ^ h)
 
 -- the list of the nodes of entry i has each node that is present, with its left child
 abbrev pub NodesListed : Type 0
@@ -245,7 +245,7 @@ abbrev pub PathSiblings : Type 0
 PathSiblings =
     (pre : Rule) (vs : List (List ℕ)) (i l : ℕ) (s : List Address) → Way (length vs) i 0 l s → path pre vs i ≡ digests pre vs s
 
--- a value folds with a proof, whatever it holds, along the way: from its leaf digest on
+-- any value folds with any proof along the way, from its leaf digest up
 abbrev pub FoldSteps : Type 0
 FoldSteps =
     (n i l : ℕ) (s : List Address) (way : Way n i 0 l s) (v proof : List ℕ)
