@@ -1,6 +1,7 @@
 pub mod AnyBytes
 pub mod CheckClaims
 pub mod CheckForms
+pub mod Decisions
 pub mod Indexes
 pub mod LogClaims
 pub mod PathTaken

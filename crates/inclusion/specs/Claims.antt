@@ -1,9 +1,11 @@
 -- What is claimed of the calls of this crate, in document 01's terms: each claim is a type, and proofs/ has its proof.
 use mathlib.Core.Bool.{true}
-use mathlib.Core.List.{List, [], _++_}
+use mathlib.Core.List.{List, [], _∷_, _++_}
+use mathlib.Core.Logic.{_⊎_}
 use mathlib.Core.Path.{_≡_}
-use Prim.Native.Nat.{ℕ, _*_, _-_, _^_, _≤_}
+use Prim.Native.Nat.{ℕ, _+_, _*_, _-_, _^_, _≤_, _<_}
 use lib.ListN.{length, getD, drop}
+use Rattle.sha256.specs.Reasons.{Decided, Reason}
 use Rattle.slate.specs.Digits.{maxHeight}
 use Rattle.slate.specs.Length.{offset}
 use Rattle.slate.specs.Moves.{hops}
@@ -11,13 +13,18 @@ use Rattle.slate.specs.Path.{fold, path}
 use Rattle.slate.specs.Tree.{root, slate}
 use Rattle.entry.specs.Kind.{isItem}
 use Rattle.entry.specs.Log.{Values, log}
+use Rattle.entry.specs.Read.{payloadAt, payloadLenAt}
+use Rattle.entry.specs.Reasons.{Opens, Unopened}
 use Rattle.entry.specs.Shape.{openedLog}
 use Rattle.entry.specs.Siblings.{siblings}
+use Rattle.entry.specs.declared.Cause.the-variants as cause
 use Rattle.entry.specs.declared.Opened.the-variants as opened
 use Rattle.ringlog.specs.Answer.{after, answer, counted, written}
+use Rattle.ringlog.specs.Reasons.{Fails, Reaches, refuses}
 use Rattle.inclusion.specs.Check.{proofHolds}
 use Rattle.inclusion.specs.Prove.{proofOf}
 use Rattle.inclusion.specs.Value.{checkedValue, itemPart, noPart, partOf}
+use Rattle.inclusion.specs.declared.Part.{Part}
 
 -- ---- proof check
 
@@ -69,6 +76,27 @@ ValueBound =
     → (o : ℕ) × (n : ℕ) × (openedLog b ≡ opened.Log o n)
     × Included n i (partOf b (checkedValue b r i)) (siblings b o (n - 1) maxHeight (i - 1)) r
 
+-- where P holds, a checked value answers this number and an empty part
+abbrev pub noValue : ℕ → Type 0 → Reason Part
+noValue k P = record { answer = record { number = k; offset = 0; length = 0 }; when = P }
+
+-- 1 where the root is not 32 bytes; 6 where opening fails; 2 where the index is 0 or above n; then the steps to entry i: 6 where an entry
+-- met is not shaped with the index wanted, 7 where a link digest disagrees; then 7 where the value folded with the siblings on the path
+-- does not give the lent root; else number 0 and where the value item stands in the entry reached
+abbrev pub ValueDecided : Type 0
+ValueDecided =
+    (b r : List ℕ) (i : ℕ)
+    → Decided (
+    noValue 1 (length r ≡ 32 → ⊥)
+    ∷ noValue 6 (Unopened b)
+    ∷ noValue 2 (Opens b (λ o n. (i ≡ 0) ⊎ (n < i)))
+    ∷ noValue 6 (Fails b i cause.Shape)
+    ∷ noValue 7 (Fails b i cause.Link)
+    ∷ noValue 7 (Reaches b i (λ o n l. fold slate n i (payloadAt b l) (siblings b o (n - 1) maxHeight (i - 1)) ≡ r → ⊥))
+    ∷ [])
+    (λ a. Reaches b i (λ o n l. a ≡ record { number = 0; offset = l + 5; length = payloadLenAt b l }))
+    (checkedValue b r i)
+
 -- a refused value is the empty part
 abbrev pub ValueRefused : Type 0
 ValueRefused =
@@ -80,6 +108,21 @@ abbrev pub ProofWritten : Type 0
 ProofWritten =
     (b s : List ℕ) (i room : ℕ) → proofOf b i room ≡ written s
     → (o : ℕ) × (n : ℕ) × (openedLog b ≡ opened.Log o n) × (length s ≡ 32 * hops n i) × (length s ≤ room)
+
+-- 6 where opening fails; 2 where the index is 0 or above n; 8 where 32·hops bytes do not fit the lent output; then the steps to entry i: 6
+-- where an entry met is not shaped with the index wanted, 7 where a link digest disagrees; else number 0 and 32·hops
+abbrev pub ProofDecided : Type 0
+ProofDecided =
+    (b : List ℕ) (i room : ℕ)
+    → Decided (
+    refuses 6 (Unopened b)
+    ∷ refuses 2 (Opens b (λ o n. (i ≡ 0) ⊎ (n < i)))
+    ∷ refuses 8 (Opens b (λ o n. room < 32 * hops n i))
+    ∷ refuses 6 (Fails b i cause.Shape)
+    ∷ refuses 7 (Fails b i cause.Link)
+    ∷ [])
+    (λ a. Opens b (λ o n. a ≡ record { number = 0; value = 32 * hops n i }))
+    (answer 0 (proofOf b i room))
 
 -- a refused proof answers 0, and leaves the output byte for byte
 abbrev pub ProofRefused : Type 0

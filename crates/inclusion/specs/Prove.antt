@@ -5,7 +5,7 @@ use lib.Dec.{ltb}
 use Rattle.sha256.specs.Pick.{pick}
 use Rattle.slate.specs.Digits.{maxHeight}
 use Rattle.slate.specs.Moves.{hops}
-use Rattle.entry.specs.Refusal.{causeNumber}
+use Rattle.entry.specs.Refusal.{causeNumber, openedNumber}
 use Rattle.entry.specs.Shape.{openedLog}
 use Rattle.entry.specs.Siblings.{siblings}
 use Rattle.entry.specs.Walk.{Descent, arrived, descend, stopped}
@@ -26,7 +26,7 @@ proofOpened b i room (opened.Log o n) =
     (pick (ltb room (32 * hops n i)) (refused 8)
     (proofReached b o n i (descend b o (n - 1) maxHeight (i - 1))))
     (refused 2)
-proofOpened b i room opened.Refused = refused 6
+proofOpened b i room opened.Refused = refused (openedNumber opened.Refused)
 
 unfoldable pub proofOf : List ℕ → ℕ → ℕ → Outcome
 proofOf b i room = proofOpened b i room (openedLog b)
