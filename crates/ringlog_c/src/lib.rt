@@ -8,7 +8,7 @@ ghost use lib.ListN.{length};
 ghost use Rattle.sha256.specs.Answer.{hashed};
 ghost use Rattle.ringlog.specs.Answer.{after, answer, countOf};
 ghost use Rattle.ringlog.specs.Append.{appended};
-ghost use Rattle.ringlog.specs.Audit.{audited};
+ghost use Rattle.ringlog.specs.Audit.{Longest, audited};
 ghost use Rattle.ringlog.specs.Cut.{afterCut, cutTo};
 ghost use Rattle.ringlog.specs.Root.{rootAnswer};
 ghost use Rattle.inclusion.specs.Check.{proofHolds};
@@ -109,6 +109,7 @@ pub extern "C" fn ringlog_append(buffer: &mut [u8], used: usize, item: &[u8]) ->
 #[no_mangle]
 pub extern "C" fn ringlog_audit(bytes: &[u8]) -> ExtentWire
     ensures { λ r. ⌜ r ≡ extentWire (audited (now (bytes .entry))) ⌝ }
+    ensures { λ r. ⌜ Longest (now (bytes .entry)) (record { entries = r .entries; bytes = r .bytes }) ⌝ }
 {
     let audited = ringlog::audit(bytes);
     ExtentWire {

@@ -18,7 +18,7 @@ unfolding reportText
 returns-2 c =
     let put = c .put-lines .ensures in
     let audit = c .before .before in
-    (rw (le-ltb _ _ (audit .before .if1 .left), ← audit .audit .ensures) put, put-counts put)
+    (rw (le-ltb _ _ (audit .before .if1 .left), ← audit .audit .ensures .0) put, put-counts put)
 
 pub report-spec : {M : Type 1} → statement M
 report-spec =

@@ -7,7 +7,7 @@ use Rattle.ringlog_c.proofs.ringlog_audit.Statement.{statement}
 use Rattle.ringlog_c.proofs.ringlog_audit.Tie as tie
 
 returns : tie.Need-returns
-returns c = ap extentWire (c .audit .ensures)
+returns c = (ap extentWire (c .audit .ensures .0), c .audit .ensures .1)
 
 pub ringlog-audit-spec : {M : Type 1} → statement M
 ringlog-audit-spec = tie.close (tie.spec (λ c κs. search needs) returns)
