@@ -1,9 +1,10 @@
--- The claims on the text: document 01's example, and no input.
+-- The claims on the text: long input, the state, document 01's example, and no input.
 -- Assumes nothing.
 use mathlib.Core.List.{List, [], _∷_, _++_}
 use mathlib.Core.Path.{_≡_, _∙_}
 use Prim.Native.Nat.{ℕ}
 use native.Mathlib.Omega.{arith}
+use borrow.Author.Tests.{eq-eqb, le-ltb, lt-ltb, ne-eqb}
 use lib.ListN.{length, getD, length-append}
 use Rattle.slate.specs.Digits.{digit, maxHeight, onesBelow}
 use Rattle.slate.specs.Length.{entryLen, offset}
@@ -13,9 +14,24 @@ use Rattle.entry.proofs.Items.{item-whole}
 use Rattle.entry.proofs.Lengths.{log-length}
 use Rattle.entry.proofs.NextEntry.{values-none, values-snoc}
 use Rattle.ringlog.proofs.AuditClaims.{audit-stray, audit-whole}
+use Rattle.ringlog.specs.Audit.{audited}
 use Rattle.audit_report.specs.Claims as claims
 use Rattle.audit_report.specs.Decimal.{decimal, decimalIn}
 use Rattle.audit_report.specs.Report.{linesText, reportText}
+
+-- ---- any input
+
+pub input-over : claims.InputOver
+unfolding reportText
+input-over b over = rw (lt-ltb 65536 (length b) over)
+
+pub state-whole : claims.StateWhole
+unfolding reportText linesText
+state-whole b few all = rw (le-ltb 65536 (length b) few, eq-eqb (audited b .bytes) (length b) all)
+
+pub state-torn : claims.StateTorn
+unfolding reportText linesText
+state-torn b few stray = rw (le-ltb 65536 (length b) few, ne-eqb (audited b .bytes) (length b) stray)
 
 -- ---- no input
 

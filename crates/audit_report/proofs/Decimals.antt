@@ -1,13 +1,39 @@
--- The fewest digits that hold a number are its text in decimal.
+-- The text of a number in decimal, digit by digit, and that it is the fewest digits that hold the number.
 -- Assumes nothing.
 use mathlib.Core.Path.{_≡_}
-use Prim.Native.Nat.{ℕ, zero, suc, _-_, _/_, _^_, _≤_, _<_}
+use Prim.Native.Nat.{ℕ, zero, suc, _+_, _*_, _-_, _/_, _%_, _^_, _≤_, _<_}
 use native.Mathlib.Nat.{mod-eq-of-lt, one-le-pow, pow-le-pow-right}
 use native.Mathlib.Omega.{arith}
 use borrow.Author.Tests.{le-ltb, lt-ltb}
 use Rattle.io.specs.Digits.{Fewest, digits}
-use Rattle.slate.proofs.Cases.{by-order}
+use Rattle.audit_report.specs.Claims as claims
 use Rattle.audit_report.specs.Decimal.{decimal, decimalIn}
+use Rattle.slate.proofs.Cases.{by-order}
+
+-- ---- digit by digit
+
+-- as many steps as there may be, or more
+steps-enough : (f g n : ℕ) → n < f → n < g → decimalIn f n ≡ decimalIn g n
+unfolding decimalIn
+steps-enough zero g n a b = absurd (omega arith)
+steps-enough (suc f) zero n a b = absurd (omega arith)
+steps-enough (suc f) (suc g) n a b =
+    by-order n 10
+    (λ few. rw (lt-ltb n 10 few))
+    (λ more. rw (le-ltb n 10 more, steps-enough f g (n / 10) (omega arith) (omega arith)))
+
+pub one-digit : claims.OneDigit
+unfolding decimal decimalIn
+one-digit n few = rw (lt-ltb n 10 few)
+
+pub more-digits : claims.MoreDigits
+unfolding decimal decimalIn
+more-digits q r some low =
+    let e : (10 * q + r) / 10 ≡ q = omega arith in
+    let f : (10 * q + r) % 10 ≡ r = omega arith in
+    rw (le-ltb (10 * q + r) 10 (omega arith), e, f, lt-ltb r 10 low, steps-enough (10 * q + r) (suc q) q (omega arith) (omega arith))
+
+-- ---- the fewest digits
 
 -- with more steps than the number
 digits-in : (f n k : ℕ) → n < f → Fewest 10 1 n k → digits 10 k n ≡ decimalIn f n
