@@ -1,14 +1,15 @@
 -- A text written piece by piece.
 -- Assumes nothing.
 use mathlib.Core.List.{List, _∷_, _++_, append-assoc}
-use mathlib.Core.Path.{sym}
-use Prim.Native.Nat.{ℕ, _≤_}
+use mathlib.Core.Path.{_≡_, sym, _∙_}
+use Prim.Native.Nat.{ℕ, _+_, _≤_}
 use native.Mathlib.Omega.{arith}
 use lib.ListN.{length, length-append}
 use lib.Seq.{length-take-le}
 use Rattle.io.specs.Counts.{Counts}
 use Rattle.entry.specs.Write.{writeAt}
 use Rattle.entry.proofs.Writes.{write-both}
+use Rattle.audit_report.specs.Claims as claims
 use Rattle.audit_report.specs.Put.{Put}
 use Rattle.audit_report.specs.Report.{line}
 
@@ -18,6 +19,14 @@ put-both {d} {e} {f} {s} {t} {at} {n} p q h = record {
   written = write-both d e f at n s t (p .written) (q .written) (p .ends) (omega arith);
   ends = simp length-append (omega arith);
 }
+
+-- at the start of a buffer
+pub put-first : claims.PutFirst
+unfolding writeAt
+put-first d s e r p =
+    let size : r ≡ length s = omega (arith, p .ends) in
+    let same : 0 + length s ≡ r = omega (arith, p .ends) in
+    (size, p .written ∙ rw same)
 
 -- bytes written at the start of a buffer are counted there
 pub put-counts : {d s e : List ℕ} {r : ℕ} → Put d 0 s e r → Counts r e

@@ -2,12 +2,13 @@
 use mathlib.Core.List.{List, [], _∷_, _++_}
 use mathlib.Core.Path.{_≡_}
 use Prim.Native.Nat.{ℕ, _+_, _*_, _≤_, _<_}
-use lib.ListN.{length, getD}
+use lib.ListN.{length, getD, drop}
 use Rattle.slate.specs.Bytes.{Bytes}
 use Rattle.entry.specs.Kind.{Item}
 use Rattle.entry.specs.Log.{log}
 use Rattle.ringlog.specs.Audit.{audited}
 use Rattle.audit_report.specs.Decimal.{decimal}
+use Rattle.audit_report.specs.Put.{Put}
 use Rattle.audit_report.specs.Report.{reportText}
 
 -- ---- the lines: each ends with one newline byte, 10
@@ -64,3 +65,9 @@ OneDigit = (n : ℕ) → n < 10 → decimal n ≡ (48 + n) ∷ []
 -- else the digits of the tens, and then the last one
 abbrev pub MoreDigits : Type 0
 MoreDigits = (q r : ℕ) → 1 ≤ q → r < 10 → decimal (10 * q + r) ≡ decimal q ++ ((48 + r) ∷ [])
+
+-- ---- a text in a buffer
+
+-- written at the start of the buffer d, it is as long as r says, and the bytes behind it stay
+abbrev pub PutFirst : Type 0
+PutFirst = (d s e : List ℕ) (r : ℕ) → Put d 0 s e r → (r ≡ length s) × (e ≡ s ++ drop r d)
