@@ -54,7 +54,7 @@ module _ (b c : List ℕ) (w : Located) (ew : w ≡ locatedOf (searched b c)) wh
 by-place {ℓ} : {P : Type ℓ} (b c : List ℕ) (p : Piece) → p ≡ placeOf b c (searched b c)
     → (p .donor ≡ 2 → p .offset ≤ length c → p .length ≡ length c - p .offset → drop (p .offset) c ≡ pieceOf b c (searched b c) → P)
     → (p .donor ≡ 1 → p .offset ≤ length b → p .length ≡ length b - p .offset → drop (p .offset) b ≡ pieceOf b c (searched b c) → P)
-    → (p .donor ≡ 0 → [] ≡ pieceOf b c (searched b c) → P) → P
+    → (p .donor ≡ 0 → p .offset ≡ 0 → p .length ≡ 0 → [] ≡ pieceOf b c (searched b c) → P) → P
 by-place {P = P} b c p e second first none = go (searched b c) refl e
   where
     go : (x : Search) → searched b c ≡ x → p ≡ placeOf b c x → P
@@ -62,26 +62,26 @@ by-place {P = P} b c p e second first none = go (searched b c) refl e
         by-bool (ltb (r .count) (s .count))
         (λ t. let q : p ≡ rest 2 c (s .at) = rw t at h in rw (q, run, t) at second refl (ends-inside b c f r s run .1) refl refl)
         (λ t. let q : p ≡ rest 1 b (r .at) = rw t at h in rw (q, run, t) at first refl (ends-inside b c f r s run .0) refl refl)
-    go (refused z k) run h = rw (h, run) at none refl refl
+    go (refused z k) run h = rw (h, run) at none refl refl refl refl
 
 module _ (b c : List ℕ) (p : Piece) (e : p ≡ placeOf b c (searched b c)) where
   pub of-second : p .donor ≡ 2
       → (p .offset ≤ length c) × (take (length c - p .offset) (drop (p .offset) c) ≡ pieceOf b c (searched b c))
   of-second h =
-      by-place b c p e (λ d le n q. (le, rest-slice c (p .offset) ∙ q)) (λ d le n q. absurd (omega arith)) (λ d q. absurd (omega arith))
+      by-place b c p e (λ d le n q. (le, rest-slice c (p .offset) ∙ q)) (λ d le n q. absurd (omega arith)) (λ d o l q. absurd (omega arith))
 
   pub of-first : p .donor ≡ 1
       → (p .offset ≤ length b) × (take (length b - p .offset) (drop (p .offset) b) ≡ pieceOf b c (searched b c))
   of-first h =
-      by-place b c p e (λ d le n q. absurd (omega arith)) (λ d le n q. (le, rest-slice b (p .offset) ∙ q)) (λ d q. absurd (omega arith))
+      by-place b c p e (λ d le n q. absurd (omega arith)) (λ d le n q. (le, rest-slice b (p .offset) ∙ q)) (λ d o l q. absurd (omega arith))
 
   pub in-neither : (p .donor ≡ 2 → ⊥) → (p .donor ≡ 1 → ⊥) → [] ≡ pieceOf b c (searched b c)
-  in-neither f g = by-place b c p e (λ d le n q. absurd (f d)) (λ d le n q. absurd (g d)) (λ d q. q)
+  in-neither f g = by-place b c p e (λ d le n q. absurd (f d)) (λ d le n q. absurd (g d)) (λ d o l q. q)
 
 pub piece-placed : claims.PiecePlaced
 unfolding part
 piece-placed b c p e =
     by-place b c p e
-    (λ d le n q. inr (inl (d, rw n (rest-slice c (p .offset) ∙ q))))
-    (λ d le n q. inl (d, rw n (rest-slice b (p .offset) ∙ q)))
-    (λ d q. inr (inr (d, q)))
+    (λ d le n q. inr (inl (d, omega arith, rw n (rest-slice c (p .offset) ∙ q))))
+    (λ d le n q. inl (d, omega arith, rw n (rest-slice b (p .offset) ∙ q)))
+    (λ d o l q. inr (inr (d, o, l, q)))

@@ -113,7 +113,7 @@ down-highest b c o q x h = to-highest x (down b c o q x) (λ p d. down-none b c 
 -- ---- two descents
 
 -- a descent that goes left
-step-descends : (b : List ℕ) (o x p t l : ℕ) (qs : List Place) → digit x p ≡ 1 → t < base x p → Stepped b o x p t l qs
+pub step-descends : (b : List ℕ) (o x p t l : ℕ) (qs : List Place) → digit x p ≡ 1 → t < base x p → Stepped b o x p t l qs
     → descend b o x (suc p) t ≡ arrived l qs
 step-descends b o x p t l qs d before s =
     descend-left b o x p t d before (s .to) (s .stepped)

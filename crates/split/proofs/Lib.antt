@@ -1,7 +1,9 @@
 pub mod AnswerCases
 pub mod AnswerForms
 pub mod AnyBytes
+pub mod Blames
 pub mod Brought
+pub mod Decisions
 pub mod DownForms
 pub mod Downs
 pub mod LocateForms
@@ -9,3 +11,4 @@ pub mod LogDowns
 pub mod LogSearch
 pub mod Repairs
 pub mod Searches
+pub mod Stops

@@ -1,7 +1,7 @@
 -- The repair piece: behind the other log, cut to the common count, it gives the donor; where the search refuses it is empty.
 -- Assumes nothing.
 use mathlib.Core.List.{List, _++_}
-use mathlib.Core.Path.{_≡_, sym, ap, _∙_}
+use mathlib.Core.Path.{_≡_, refl, sym, ap, _∙_}
 use Prim.Native.Nat.{ℕ, _-_, _≤_}
 use borrow.Author.Tests.{le-ltb, lt-ltb}
 use lib.ListN.{length, take, drop, take-append-drop}
@@ -48,4 +48,4 @@ repair-heals vs ws a d okv okw h s e =
     )
 
 pub repair-refused : claims.RepairRefused
-repair-refused b c s k h = rw h
+repair-refused b c s k h = rw h (refl, refl)

@@ -6,10 +6,10 @@ use Rattle.slate.specs.Bytes.{same}
 use Rattle.slate.specs.Comparison.{Compared, byLength, differAt}
 use Rattle.slate.specs.Digits.{maxHeight}
 use Rattle.entry.specs.Read.{digestAt, entryLenAt}
+use Rattle.entry.specs.Refusal.{unopened}
 use Rattle.entry.specs.Shape.{openedLog}
 use Rattle.entry.specs.Walk.{Descent, Place, arrived, descend, stopped}
 use Rattle.entry.specs.declared.Cause.{Cause}
-use Rattle.entry.specs.declared.Cause.the-variants as cause
 use Rattle.entry.specs.declared.Opened.{Opened}
 use Rattle.entry.specs.declared.Opened.the-variants as opened
 use Rattle.split.specs.Below.{Below, blocked, down, leaf}
@@ -71,8 +71,8 @@ searchFrom b c (suc t) a d =
 
 -- the first is opened, then the second: 6 for the one that does not open
 abbrev pub searchOpened : List ℕ → List ℕ → Opened → Opened → Search
-searchOpened b c opened.Refused w = refused side.First cause.Shape
-searchOpened b c (opened.Log o m) opened.Refused = refused side.Second cause.Shape
+searchOpened b c opened.Refused w = refused side.First unopened
+searchOpened b c (opened.Log o m) opened.Refused = refused side.Second unopened
 searchOpened b c (opened.Log o m) (opened.Log q k) = searchFrom b c (min m k) (opening o m) (opening q k)
 
 unfoldable pub searched : List ℕ → List ℕ → Search
