@@ -1,4 +1,4 @@
--- On any bytes: how many entries an answered search has read, what it says, where the piece starts, and that it depends on the entries read.
+-- On any bytes: what an answered search has read and says, where the piece starts, and that it depends on the entries read alone.
 -- Assumes nothing.
 use mathlib.Core.List.{List, _∷_}
 use mathlib.Core.Logic.{_⊎_, inl, inr}

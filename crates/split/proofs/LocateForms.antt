@@ -21,7 +21,7 @@ use Rattle.entry.specs.declared.Opened.the-variants as opened
 use Rattle.entry.specs.declared.Walk.{Walk}
 use Rattle.entry.specs.declared.Walk.the-variants as walk
 use Rattle.split.specs.Below.{Below, blocked, down, downOf, leaf}
-use Rattle.split.specs.Located.{further, locatedAt, locatedBelow, locatedOf, openingReads, tally, toVerdict}
+use Rattle.split.specs.Located.{further, locatedAt, locatedBelow, locatedOf, tally, toVerdict}
 use Rattle.split.specs.Search.{Search, Trace, answered, moved, opening, refused, searchAt, searchBelow, searchBrought, searchFrom, searched}
 use Rattle.split.specs.declared.Down.{Down}
 use Rattle.split.specs.declared.Down.the-variants as answer
@@ -38,7 +38,7 @@ use Rattle.entry.proofs.Reached.{Indexed, walk-reached, walk-stopped}
 use Rattle.split.proofs.Brought.{brought-inside}
 use Rattle.split.proofs.DownForms.{at-leaf, leaf-counted}
 use Rattle.split.proofs.Downs.{down-descends}
-use Rattle.split.proofs.Searches.{by-answered, searched-none}
+use Rattle.split.proofs.Searches.{by-answered, opening-count, searched-none}
 
 -- ---- both logs stand at the entry at position t
 
@@ -92,13 +92,12 @@ opening-last : (o m : ℕ) → 0 < m → opening o m ≡ record { count = m; rea
 opening-last o zero lt = absurd (omega arith)
 opening-last o (suc x) lt = let e : suc x - 1 ≡ x = omega arith in rw e
 
-moved-tally : (o m l r : ℕ) (qs : List Place) → 0 < m → r ≡ length qs
-    → tally (moved (opening o m) l qs) ≡ record { count = m; reads = 1 + r; at = l }
-moved-tally o m l r qs lt e = rw (opening-last o m lt, e, one-add (length qs))
+moved-tally : (o m i l r : ℕ) (qs : List Place) → 0 < m → i ≡ 1 → r ≡ length qs
+    → tally (moved (opening o m) l qs) ≡ record { count = m; reads = i + r; at = l }
+moved-tally o m i l r qs lt ei e = rw (opening-last o m lt, ei, e, one-add (length qs))
 
-opening-tally : (o m : ℕ) → length (opening o m .reads) ≡ openingReads m
-opening-tally o zero = refl
-opening-tally o (suc x) = refl
+pub opening-tally : (o m : ℕ) → 0 < m → tally (opening o m) ≡ record { count = m; reads = 1; at = o }
+opening-tally o m lt = rw (opening-last o m lt)
 
 -- a walk's answer counts the entries read
 walk-count : (d : Descent) (w : Walk) (l r : ℕ) (qs : List Place) → w ≡ walkOf d → w ≡ walk.Arrived l r → d ≡ arrived l qs → r ≡ length qs
@@ -124,10 +123,10 @@ module _ (b c : List ℕ) (o m q k n : ℕ) (a : Indexed b o m n) (d : Indexed c
           → located.Refused side.Second z ≡ locatedOf (searchFrom b c (min m k) (opening o m) (opening q k))
       second-stopped z f = sym (ap locatedOf turn ∙ rw (walk-reached a w ew l r e .run, walk-stopped d w′ ew′ z f))
 
-      pub both-arrived : (l′ r′ : ℕ) → w′ ≡ walk.Arrived l′ r′ → (x : Located)
-          → x ≡ locatedAt b c (n - 1) (record { count = m; reads = 1 + r; at = l }) (record { count = k; reads = 1 + r′; at = l′ })
+      pub both-arrived : (i j : ℕ) → i ≡ 1 → j ≡ 1 → (l′ r′ : ℕ) → w′ ≡ walk.Arrived l′ r′ → (x : Located)
+          → x ≡ locatedAt b c (n - 1) (record { count = m; reads = i + r; at = l }) (record { count = k; reads = j + r′; at = l′ })
           → x ≡ locatedOf (searchFrom b c (min m k) (opening o m) (opening q k))
-      both-arrived l′ r′ e′ x ex =
+      both-arrived f g ef eg l′ r′ e′ x ex =
           let i = walk-reached a w ew l r e in
           let j = walk-reached d w′ ew′ l′ r′ e′ in
           ex
@@ -135,8 +134,8 @@ module _ (b c : List ℕ) (o m q k n : ℕ) (a : Indexed b o m n) (d : Indexed c
           (ap locatedOf turn ∙ rw (i .run, j .run)
           (at-tallied b c (n - 1) (moved (opening o m) l (i .reads)) (moved (opening q k) l′ (j .reads))
           ∙ ap₂ (locatedAt b c (n - 1))
-          (moved-tally o m l r (i .reads) (omega (arith, a .first, a .high)) (walk-count _ w l r (i .reads) ew e (i .run)))
-          (moved-tally q k l′ r′ (j .reads) (omega (arith, d .first, d .high)) (walk-count _ w′ l′ r′ (j .reads) ew′ e′ (j .run)))))
+          (moved-tally o m f l r (i .reads) (omega (arith, a .first, a .high)) ef (walk-count _ w l r (i .reads) ew e (i .run)))
+          (moved-tally q k g l′ r′ (j .reads) (omega (arith, d .first, d .high)) eg (walk-count _ w′ l′ r′ (j .reads) ew′ e′ (j .run)))))
 
 -- ---- opening
 
@@ -150,14 +149,37 @@ module _ (b c : List ℕ) (o m : ℕ) (eo : openedLog b ≡ opened.Log o m) wher
   second-unopened e = rw (eo, e)
 
   module _ (q k : ℕ) (eq : openedLog c ≡ opened.Log q k) where
-    pub both-opened : (x : Located) → x ≡ locatedOf (searchFrom b c (min m k) (opening o m) (opening q k)) → x ≡ locatedOf (searched b c)
-    unfolding searched
-    both-opened x e = rw (eo, eq) e
+    -- each log has been opened, and its tally has begun
+    module _ (a d : Tally) (ea : a ≡ tally (opening o m)) (ed : d ≡ tally (opening q k)) where
+      begun-counts : (a .count ≡ m) × (d .count ≡ k)
+      begun-counts = rw (ea, ed) (opening-count o m, opening-count q k)
 
-    pub one-empty : min m k ≡ 0 → (v : Verdict) (i j : ℕ) → v ≡ toVerdict (byLength m k) → i ≡ openingReads m → j ≡ openingReads k
-        → located.Found 0 v (record { count = m; reads = i; at = 0 }) (record { count = k; reads = j; at = 0 }) ≡ locatedOf (searched b c)
-    one-empty n v i j ev ei ej =
-        rw (ev, ei, ej, ← opening-tally o m, ← opening-tally q k) (sym (ap locatedOf (searched-none b c o m q k eo eq n)))
+      pub one-empty : min (a .count) (d .count) ≡ 0 → (v : Verdict) → v ≡ toVerdict (byLength (a .count) (d .count))
+          → located.Found 0 v (record { count = a .count; reads = a .reads; at = 0 }) (record { count = d .count; reads = d .reads; at = 0 })
+          ≡ locatedOf (searched b c)
+      one-empty n v ev =
+          let h = rw (begun-counts .0, begun-counts .1) at n in
+          rw (ev, ea, ed, opening-count o m, opening-count q k) (sym (ap locatedOf (searched-none b c o m q k eo eq h)))
+
+      -- neither is empty
+      module _ (n : min (a .count) (d .count) ≡ 0 → ⊥) where
+        first-begun : a ≡ record { count = m; reads = 1; at = o }
+        first-begun = ea ∙ opening-tally o m (omega (arith, n, begun-counts .0))
+
+        second-begun : d ≡ record { count = k; reads = 1; at = q }
+        second-begun = ed ∙ opening-tally q k (omega (arith, n, begun-counts .1))
+
+        pub first-opened : (openedLog b ≡ opened.Log (a .at) (a .count)) × (0 < a .count) × (a .reads ≡ 1)
+        first-opened = (rw first-begun eo, omega (arith, n), rw first-begun refl)
+
+        pub second-opened : (openedLog c ≡ opened.Log (d .at) (d .count)) × (0 < d .count) × (d .reads ≡ 1)
+        second-opened = (rw second-begun eq, omega (arith, n), rw second-begun refl)
+
+        pub both-opened : (x : Located)
+            → x ≡ locatedOf (searchFrom b c (min (a .count) (d .count)) (opening (a .at) (a .count)) (opening (d .at) (d .count)))
+            → x ≡ locatedOf (searched b c)
+        unfolding searched
+        both-opened x e = rw (eo, eq) (rw (first-begun, second-begun) at e)
 
 -- ---- the entries in common end inside
 

@@ -39,7 +39,7 @@ parted u = record { common = u; verdict = differAt (suc u) }
 abbrev pub traceTo : ℕ → ℕ → List Place → ℕ → Trace
 traceTo o x qs e = record { count = suc x; reads = record { begins = o; position = x } ∷ qs; at = e }
 
-opening-count : (o n : ℕ) → opening o n .count ≡ n
+pub opening-count : (o n : ℕ) → opening o n .count ≡ n
 opening-count o zero = refl
 opening-count o (suc x) = refl
 

@@ -1,6 +1,6 @@
 -- What the internal enums of the code hold of a search: the entries read are counted.
 use mathlib.Core.List.{List}
-use Prim.Native.Nat.{ℕ, zero, suc, _+_}
+use Prim.Native.Nat.{ℕ, suc, _+_}
 use lib.ListN.{length}
 use Rattle.sha256.specs.Pick.{pick}
 use Rattle.slate.specs.Bytes.{same}
@@ -27,11 +27,6 @@ tally a = record { count = a .count; reads = length (a .reads); at = a .at }
 abbrev pub locatedOf : Search → Located
 locatedOf (answered f a d) = located.Found (f .common) (toVerdict (f .verdict)) (tally a) (tally d)
 locatedOf (refused s k) = located.Refused s k
-
--- opening a log of n entries is one read, unless it is empty
-abbrev pub openingReads : ℕ → ℕ
-openingReads zero = 0
-openingReads (suc x) = 1
 
 -- ---- the search from entry n on, with the entries read before it counted
 

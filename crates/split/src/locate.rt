@@ -7,7 +7,7 @@ ghost use Rattle.slate.specs.Digits.{maxHeight};
 ghost use Rattle.entry.specs.Shape.{Inside, openedLog};
 ghost use Rattle.entry.specs.Walk.{descend, walkOf};
 ghost use Rattle.entry.specs.declared.Opened.the-variants as opened;
-ghost use Rattle.split.specs.Located.{locatedAt, locatedOf, openingReads, toVerdict};
+ghost use Rattle.split.specs.Located.{locatedAt, locatedOf, tally, toVerdict};
 ghost use Rattle.split.specs.Search.{opening, searchFrom, searched};
 use crate::Down;
 use crate::Located;
@@ -39,14 +39,23 @@ fn by_length(m: u32, k: u32) -> Verdict
     Verdict::SecondShorter
 }
 
-// Opening a log that is not empty is one read.
-fn opening_reads(count: u32) -> u32
-    ensures { λ r. ⌜ r ≡ openingReads count ⌝ }
+// A log of `count` entries was just opened, and the last of them begins at `last`: that is one read,
+// unless the log is empty.
+fn begun(last: usize, count: u32) -> Tally
+    ensures { λ r. ⌜ r ≡ tally (opening «last» count) ⌝ }
 {
     if count == 0 {
-        return 0;
+        return Tally {
+            count: 0,
+            reads: 0,
+            at: 0,
+        };
     }
-    1
+    Tally {
+        count: count,
+        reads: 1,
+        at: last,
+    }
 }
 
 // A log of m entries, the last of which begins at `last`, is brought to entry n. No step is taken
@@ -123,26 +132,19 @@ fn locate_at(first: &[u8], second: &[u8], position: u32, a: Tally, b: Tally) -> 
     }
 }
 
-// Both logs are open and not empty: the first is brought to entry n, then the second.
-fn locate_from(
-    first: &[u8],
-    second: &[u8],
-    first_last: usize,
-    m: u32,
-    second_last: usize,
-    k: u32,
-) -> Located
-    requires { ⌜ (openedLog (now first) ≡ opened.Log «first_last» m) × (0 < m) ⌝ }
-    requires { ⌜ (openedLog (now second) ≡ opened.Log «second_last» k) × (0 < k) ⌝ }
-    ensures { λ r. ⌜ r ≡ locatedOf (searchFrom (now (first .entry)) (now (second .entry)) (min m k) (opening «first_last» m) (opening «second_last» k)) ⌝ }
+// Both logs are open and not empty, each read once: the first is brought to entry n, then the second.
+fn locate_from(first: &[u8], second: &[u8], a: Tally, b: Tally) -> Located
+    requires { ⌜ (openedLog (now first) ≡ opened.Log (a .at) (a .count)) × (0 < a .count) × (a .reads ≡ 1) ⌝ }
+    requires { ⌜ (openedLog (now second) ≡ opened.Log (b .at) (b .count)) × (0 < b .count) × (b .reads ≡ 1) ⌝ }
+    ensures { λ r. ⌜ r ≡ locatedOf (searchFrom (now (first .entry)) (now (second .entry)) (min (a .count) (b .count)) (opening (a .at) (a .count)) (opening (b .at) (b .count))) ⌝ }
 {
-    let n = smaller(m, k);
-    match bring(first, first_last, m, n) {
+    let n = smaller(a.count, b.count);
+    match bring(first, a.at, a.count, n) {
         Walk::Refused(cause) => Located::Refused(Side::First, cause),
         Walk::Arrived {
             start: first_at,
             reads: first_steps,
-        } => match bring(second, second_last, k, n) {
+        } => match bring(second, b.at, b.count, n) {
             Walk::Refused(cause) => Located::Refused(Side::Second, cause),
             Walk::Arrived {
                 start: second_at,
@@ -152,13 +154,13 @@ fn locate_from(
                 second,
                 n - 1,
                 Tally {
-                    count: m,
-                    reads: 1 + first_steps,
+                    count: a.count,
+                    reads: a.reads + first_steps,
                     at: first_at,
                 },
                 Tally {
-                    count: k,
-                    reads: 1 + second_steps,
+                    count: b.count,
+                    reads: b.reads + second_steps,
                     at: second_at,
                 },
             ),
@@ -177,6 +179,7 @@ pub fn locate(first: &[u8], second: &[u8]) -> Located
     else {
         return Located::Refused(Side::First, Cause::Shape);
     };
+    let a = begun(first_last, m);
     let Opened::Log {
         start: second_last,
         count: k,
@@ -184,28 +187,22 @@ pub fn locate(first: &[u8], second: &[u8]) -> Located
     else {
         return Located::Refused(Side::Second, Cause::Shape);
     };
-    if smaller(m, k) == 0 {
+    let b = begun(second_last, k);
+    if smaller(a.count, b.count) == 0 {
         return Located::Found {
             common: 0,
-            verdict: by_length(m, k),
+            verdict: by_length(a.count, b.count),
             first: Tally {
-                count: m,
-                reads: opening_reads(m),
+                count: a.count,
+                reads: a.reads,
                 at: 0,
             },
             second: Tally {
-                count: k,
-                reads: opening_reads(k),
+                count: b.count,
+                reads: b.reads,
                 at: 0,
             },
         };
     }
-    locate_from(
-        reborrow(first),
-        reborrow(second),
-        first_last,
-        m,
-        second_last,
-        k,
-    )
+    locate_from(reborrow(first), reborrow(second), a, b)
 }
