@@ -1,4 +1,4 @@
--- The case of the search's answer, from its numbers.
+-- The numbers of the search's answer, case by case, and the case from its numbers.
 -- Assumes nothing.
 use mathlib.Core.Path.{_≡_, refl, sym, ap, _∙_}
 use Prim.Native.Nat.{ℕ, zero, suc}
@@ -15,6 +15,11 @@ use Rattle.split.specs.declared.Side.the-variants as side
 use Rattle.split.specs.declared.Verdict.{Verdict}
 use Rattle.split.specs.declared.Verdict.the-variants as verdict
 use Rattle.entry.proofs.Refusals.{cause-some, cause-told, causeOf}
+
+pub cases-numbered : claims.CasesNumbered
+cases-numbered = (λ n r s. (refl, refl, refl, λ i. refl), λ k. (refl, refl, refl))
+
+-- ---- the case
 
 toldSide : ℕ → Side
 toldSide zero = side.First

@@ -14,6 +14,7 @@ use Rattle.slate.specs.Tree.{slate}
 use Rattle.entry.specs.Log.{Values, log}
 use Rattle.entry.specs.Read.{digestAt, entryLenAt, leftDigestAt}
 use Rattle.entry.specs.Reasons.{Opens, StepFails, Unopened}
+use Rattle.entry.specs.Refusal.{causeNumber}
 use Rattle.entry.specs.Shape.{openedLog}
 use Rattle.entry.specs.Walk.{Kept, Place, arrived, descend, leftStep}
 use Rattle.entry.specs.declared.Cause.{Cause}
@@ -29,8 +30,10 @@ use Rattle.split.specs.Repair.{pieceOf, placeOf}
 use Rattle.split.specs.Search.{Trace, answered, refused, searched}
 use Rattle.split.specs.declared.Piece.{Piece}
 use Rattle.split.specs.declared.SearchAnswer.{SearchAnswer}
+use Rattle.split.specs.declared.SearchAnswer.the-variants as case
 use Rattle.split.specs.declared.Side.{Side}
 use Rattle.split.specs.declared.Side.the-variants as side
+use Rattle.split.specs.declared.Verdict.the-variants as verdict
 
 -- ---- two well-formed logs, which are the logs of the values vs and ws
 
@@ -77,6 +80,27 @@ BlameFair =
 
 -- ---- any bytes
 
+-- an answer in numbers: the count in common, the verdict's number, the i where they differ, and reads per log
+abbrev pub numbers : ℕ → ℕ → ℕ → ℕ → ℕ → Split
+numbers n v i r s = record { number = 0; side = 0; common = n; verdict = v; place = i; firstReads = r; secondReads = s }
+
+-- a refusal in numbers: why, which log, and zero for all else
+abbrev pub zeros : ℕ → ℕ → Split
+zeros k s = record { number = k; side = s; common = 0; verdict = 0; place = 0; firstReads = 0; secondReads = 0 }
+
+-- the cases of an answer: 0 same, 1 first shorter, 2 second shorter, 3 differ at i. Of a refusal: 1 the first log, 2 the second, 3 both
+abbrev pub CasesNumbered : Type 0
+CasesNumbered =
+    ((n r s : ℕ)
+    → (answerOf (case.Answered n verdict.Same r s) ≡ numbers n 0 0 r s)
+    × (answerOf (case.Answered n verdict.FirstShorter r s) ≡ numbers n 1 0 r s)
+    × (answerOf (case.Answered n verdict.SecondShorter r s) ≡ numbers n 2 0 r s)
+    × ((i : ℕ) → answerOf (case.Answered n (verdict.DifferAt i) r s) ≡ numbers n 3 i r s))
+    × ((k : Cause)
+    → (answerOf (case.Refused side.First k) ≡ zeros (causeNumber k) 1)
+    × (answerOf (case.Refused side.Second k) ≡ zeros (causeNumber k) 2)
+    × (answerOf (case.Refused side.Both k) ≡ zeros (causeNumber k) 3))
+
 -- an answer's numbers tell its case, so that the promise decides the enum
 abbrev pub OneAnswer : Type 0
 OneAnswer = (r s : SearchAnswer) → answerOf r ≡ answerOf s → r ≡ s
@@ -104,10 +128,6 @@ abbrev pub Blocked : List ℕ → List ℕ → Side → Cause → Type 0
 Blocked b c s k =
     (n : ℕ) × (l : ℕ) × (r : ℕ) × Least b c n × Reaches b n l × Reaches c n r
     × (digestAt b l (n - 1) maxHeight ≡ digestAt c r (n - 1) maxHeight → ⊥) × (down b c l r (n - 1) maxHeight ≡ blocked s k)
-
--- a refusal: its number, which log (1 the first, 2 the second, 3 both), and zero for all else
-abbrev pub zeros : ℕ → ℕ → Split
-zeros k s = record { number = k; side = s; common = 0; verdict = 0; place = 0; firstReads = 0; secondReads = 0 }
 
 -- the reasons to refuse below unequal tops: a left step fails in the first log, or in the second, or left and right are both equal
 abbrev pub reasonsBelow : List ℕ → List ℕ → List (Reason Split)
@@ -139,20 +159,11 @@ Told v k p =
     (v ≡ equal → (k ≡ 0) × (p ≡ 0)) × (v ≡ firstShorter → (k ≡ 1) × (p ≡ 0)) × (v ≡ secondShorter → (k ≡ 2) × (p ≡ 0))
     × ((i : ℕ) → v ≡ differAt i → (k ≡ 3) × (p ≡ i))
 
--- the search answers, and s is its answer in numbers: number and side 0, the count in common, the verdict, and as many reads of a log as
--- entries were read in it
+-- the search answers, and s is its answer in numbers: the reads of a log are as many as the entries read in it
 abbrev pub Answers : List ℕ → List ℕ → Split → Type 0
 Answers b c s =
     (f : Compared) × (a : Trace) × (d : Trace) × (searched b c ≡ answered f a d) × (k : ℕ) × (p : ℕ) × Told (f .verdict) k p
-    × (s ≡ record {
-      number = 0;
-      side = 0;
-      common = f .common;
-      verdict = k;
-      place = p;
-      firstReads = length (a .reads);
-      secondReads = length (d .reads);
-    })
+    × (s ≡ numbers (f .common) k p (length (a .reads)) (length (d .reads)))
 
 -- a search refuses for the first of the reasons that holds; where none holds, it answers
 abbrev pub SearchDecided : Type 0
@@ -209,7 +220,7 @@ UnreadFree =
 
 -- ---- any bytes: the piece
 
--- the piece lies where `placeOf` says: it is that part of the first log, or of the second, up to its end; or it is empty and lies in neither
+-- the piece lies where `placeOf` says: it is that part of the first log, or of the second, up to its end; or it is empty, in neither
 abbrev pub PiecePlaced : Type 0
 PiecePlaced =
     (b c : List ℕ) (p : Piece) → p ≡ placeOf b c (searched b c)
