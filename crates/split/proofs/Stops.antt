@@ -1,8 +1,8 @@
--- Going down from unequal nodes, in any bytes: the unequal nodes at which it is refused, and the leaf digests to which it leads.
+-- Going down, in any bytes: its turns, the unequal nodes at which it is refused, and the leaf digests to which it leads.
 -- Assumes nothing.
 use mathlib.Core.List.{List, []}
 use mathlib.Core.Logic.{_⊎_, inl, inr}
-use mathlib.Core.Path.{_≡_, refl, sym, _∙_}
+use mathlib.Core.Path.{_≡_, refl, sym, ap, _∙_}
 use Prim.Native.Nat.{ℕ, zero, suc, _-_, _≤_, _<_}
 use native.Mathlib.Omega.{arith}
 use Rattle.slate.specs.Bytes.{same}
@@ -21,7 +21,7 @@ use Rattle.slate.proofs.Bits.{base-le, left-base, left-end, left-lt, left-pred,
 use Rattle.slate.proofs.Cases.{by-bool, by-digit}
 use Rattle.slate.proofs.Lists.{same-false, same-true}
 use Rattle.entry.proofs.Descents.{descend-here, descend-none, descend-right, left-step-to}
-use Rattle.split.proofs.Downs.{by-down, leftEntry, step-descends}
+use Rattle.split.proofs.Downs.{by-down, down-highest, down-left, down-right, leftEntry, step-descends}
 
 -- ---- digests
 
@@ -189,6 +189,17 @@ down-stops b c o q x (suc p) s k n e =
     stepped d f rest (step.To l) (step.To m) eu ev h =
         stop-left b c o q x p s k d l m eu ev
         (rest l m (left-differ b c o q x p l m eu ev f) (read _ _ (down b c l m (left x p) p) h))
+
+-- ---- the claims
+
+pub down-turns : claims.DownTurns
+unfolding left base down
+down-turns b c o q i = (
+  λ h. down-highest b c o q (i - 1) h,
+  refl,
+  λ p d n l r f s t e g qs rs h. down-left b c o q (i - 1) p d n l r f s ∙ ap (readingBoth _ _) h,
+  λ p d e n. down-right b c o q (i - 1) p d e n ∙ down-highest b c o q (i - 1) p,
+)
 
 pub down-refused : claims.DownRefused
 down-refused b c o q i h s k n e =

@@ -6,6 +6,7 @@ use mathlib.Core.Path.{_≡_}
 use Prim.Native.Nat.{ℕ, suc, _+_, _-_, _≤_, _<_, min}
 use lib.ListN.{length, getD, take}
 use Rattle.sha256.specs.Reasons.{Decided, Reason}
+use Rattle.slate.specs.Address.{highest, leftChild, rightHeight}
 use Rattle.slate.specs.Bytes.{part}
 use Rattle.slate.specs.Clash.{Clash}
 use Rattle.slate.specs.Comparison.{Compared, Verdict, byLength, compared, differAt, equal, firstShorter, secondShorter}
@@ -24,7 +25,7 @@ use Rattle.entry.specs.declared.Step.the-variants as step
 use Rattle.ringlog.specs.Answer.{counted}
 use Rattle.ringlog.specs.Cut.{cutTo}
 use Rattle.split.specs.Answer.{Split, answerOf, splitOf}
-use Rattle.split.specs.Below.{blocked, down}
+use Rattle.split.specs.Below.{blocked, down, leaf}
 use Rattle.split.specs.Reads.{readsFormula}
 use Rattle.split.specs.Repair.{pieceOf, placeOf}
 use Rattle.split.specs.Search.{Trace, answered, refused, searched}
@@ -168,6 +169,24 @@ Answers b c s =
 -- a search refuses for the first of the reasons that holds; where none holds, it answers
 abbrev pub SearchDecided : Type 0
 SearchDecided = (b c : List ℕ) → Decided (reasons b c) (Answers b c) (splitOf (searched b c))
+
+-- ---- any bytes: going down
+
+-- from the highest nodes of two entries i, which begin at o and q. At a leaf the difference is at i. At a node, left digests differ: a left
+-- step in each log, and the entries where they lead are read; left digests equal: the right child, whose digests must differ
+abbrev pub DownTurns : Type 0
+DownTurns =
+    (b c : List ℕ) (o q i : ℕ)
+    → ((h : ℕ) → down b c o q (i - 1) h ≡ down b c o q (i - 1) (highest (i - 1) h))
+    × (down b c o q (i - 1) 0 ≡ leaf (i - 1) o q [] [])
+    × ((p : ℕ) → digit (i - 1) p ≡ 1 → (leftDigestAt b o (i - 1) p ≡ leftDigestAt c q (i - 1) p → ⊥)
+    → (l r : ℕ) → leftStep b o (i - 1) p ≡ step.To l → leftStep c q (i - 1) p ≡ step.To r
+    → (t e g : ℕ) (qs rs : List Place) → down b c l r (leftChild i p - 1) p ≡ leaf t e g qs rs
+    → down b c o q (i - 1) (suc p)
+    ≡ leaf t e g (record { begins = l; position = leftChild i p - 1 } ∷ qs) (record { begins = r; position = leftChild i p - 1 } ∷ rs))
+    × ((p : ℕ) → digit (i - 1) p ≡ 1 → leftDigestAt b o (i - 1) p ≡ leftDigestAt c q (i - 1) p
+    → (digestAt b o (i - 1) p ≡ digestAt c q (i - 1) p → ⊥)
+    → down b c o q (i - 1) (suc p) ≡ down b c o q (i - 1) (rightHeight i p))
 
 -- why going down stops at the nodes of height p + 1 of two entries j, which begin at l and r. Left digests differ: the left step of the
 -- first log is refused, or it lands and the second's is refused; left digests equal: the right child's are equal too, 7 for both
