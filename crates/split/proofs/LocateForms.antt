@@ -155,7 +155,8 @@ module _ (b c : List ℕ) (o m : ℕ) (eo : openedLog b ≡ opened.Log o m) wher
       begun-counts = rw (ea, ed) (opening-count o m, opening-count q k)
 
       pub one-empty : min (a .count) (d .count) ≡ 0 → (v : Verdict) → v ≡ toVerdict (byLength (a .count) (d .count))
-          → located.Found 0 v (record { count = a .count; reads = a .reads; at = 0 }) (record { count = d .count; reads = d .reads; at = 0 })
+          → located.Found 0 v (record { count = a .count; reads = a .reads; at = 0 })
+          (record { count = d .count; reads = d .reads; at = 0 })
           ≡ locatedOf (searched b c)
       one-empty n v ev =
           let h = rw (begun-counts .0, begun-counts .1) at n in
