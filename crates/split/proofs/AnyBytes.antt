@@ -59,7 +59,7 @@ reads-counted b c f a d h =
 -- ---- what an answer says
 
 -- entry t + 1 of a log that is brought to it
-brought-reaches : {b : List ℕ} {o x t l : ℕ} {qs : List Place} → Brought b o x t l qs → (n : ℕ) → n ≡ suc t → claims.Reaches b n l
+pub brought-reaches : {b : List ℕ} {o x t l : ℕ} {qs : List Place} → Brought b o x t l qs → (n : ℕ) → n ≡ suc t → claims.Reaches b n l
 brought-reaches {o = o} {x} {t} {qs = qs} v n e =
     let i : suc x - 1 ≡ x = omega arith in
     let j : n - 1 ≡ t = omega arith in

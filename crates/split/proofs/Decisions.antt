@@ -27,6 +27,7 @@ use Rattle.split.specs.declared.Side.the-variants as side
 use Rattle.slate.proofs.Cases.{by-equal}
 use Rattle.slate.proofs.Lists.{same-ne}
 use Rattle.entry.proofs.Descents.{by-left-step, descend-causes}
+use Rattle.split.proofs.AnyBytes.{brought-reaches}
 use Rattle.split.proofs.Brought.{Brought}
 use Rattle.split.proofs.Searches.{searched-equal, searched-none, searched-parted}
 use Rattle.split.proofs.Stops.{down-stops}
@@ -60,9 +61,6 @@ module _ (b : List ℕ) (o x t : ℕ) (e : openedLog b ≡ opened.Log o (suc x))
 
   stops-at : (z : Cause) → descend b o x maxHeight t ≡ stopped z → claims.Stops b (suc t) z
   stops-at z f = (o, suc x, e, rw (ex, et) f)
-
-  reaches-at : (l : ℕ) (qs : List Place) → descend b o x maxHeight t ≡ arrived l qs → claims.Reaches b (suc t) l
-  reaches-at l qs f = (o, suc x, e, (qs, rw (ex, et) f))
 
   stops-only : (z : Cause) → claims.Stops b (suc t) z → descend b o x maxHeight t ≡ stopped z
   stops-only z h = rw (ex, et) at (opens-at b o (suc x) _ e h)
@@ -117,13 +115,19 @@ module _ (b c : List ℕ) where
     -- both stand at that entry
     module _ (l m : ℕ) (qs rs : List Place) (f : descend b o x maxHeight t ≡ arrived l qs)
         (g : descend c q y maxHeight t ≡ arrived m rs) where
+      first : Brought b o x t l qs
+      first = record { opens = fo; high = omega (arith, n); run = f }
+
+      second : Brought c q y t m rs
+      second = record { opens = so; high = omega (arith, n); run = g }
+
       abbrev Apart : Type 0
       Apart = digestAt b l t maxHeight ≡ digestAt c m t maxHeight → ⊥
 
       blocked-at : (s : Side) (k : Cause) → Apart → down b c l m t maxHeight ≡ blocked s k → claims.Blocked b c s k
       blocked-at s k a e =
           let z : suc t - 1 ≡ t = omega arith in
-          (suc t, l, m, least, reaches-at b o x t fo l qs f, reaches-at c q y t so m rs g, rw z a, rw z e)
+          (suc t, l, m, least, brought-reaches first (suc t) refl, brought-reaches second (suc t) refl, rw z a, rw z e)
 
       blocked-only : (s : Side) (k : Cause) → claims.Blocked b c s k → Apart × (down b c l m t maxHeight ≡ blocked s k)
       blocked-only s k (n′, l′, m′, h, i, j, a, e) =
@@ -199,12 +203,6 @@ module _ (b c : List ℕ) where
             (u .1))
             (λ u. both-link (rw (u .2, u .3) at e))
             (down-stops b c l m t maxHeight s k a e .why)
-
-      first : Brought b o x t l qs
-      first = record { opens = fo; high = omega (arith, n); run = f }
-
-      second : Brought c q y t m rs
-      second = record { opens = so; high = omega (arith, n); run = g }
 
       below : Rest (claims.reasonsBelow b c)
       below =
