@@ -20,6 +20,14 @@ pub padding-least : claims.PaddingLeast
 unfolding zeroBytes
 padding-least n k e = omega arith
 
+pub padded-bytes : claims.PaddedBytes
+unfolding padded
+padded-bytes m u v n e low k =
+    let high : 8 * length m / 2 ^ 32 ≡ u = omega arith in
+    let rest : 8 * length m % 2 ^ 32 ≡ v = omega arith in
+    let zeros : zeroBytes (length m) ≡ n = omega arith in
+    rw (high, rest, zeros) (append-assoc m (0x80 ∷ []) _)
+
 -- the message and the byte behind it
 abbrev pub ended : List ℕ → List ℕ
 ended m = m ++ (128 ∷ [])

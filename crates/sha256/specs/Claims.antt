@@ -48,6 +48,12 @@ PaddingFits = (n : ℕ) → (8 * n + 1 + zeroBits n) % 512 ≡ 448
 abbrev pub PaddingLeast : Type 0
 PaddingLeast = (n k : ℕ) → (8 * n + 1 + k) % 512 ≡ 448 → zeroBits n ≤ k
 
+-- behind the message stand the bit 1, those k zero bits, and l in 64 bits: its high word u, and its low word v
+abbrev pub PaddedBytes : Type 0
+PaddedBytes =
+    (m : List ℕ) (u v n : ℕ) → 8 * length m ≡ u * 2 ^ 32 + v → v < 2 ^ 32 → 7 + 8 * n ≡ zeroBits (length m)
+    → padded m ≡ m ++ (0x80 ∷ (replicate n 0 ++ bytesOf (u ∷ v ∷ [])))
+
 -- 5.2.1: the padded message is a number of whole blocks
 abbrev pub WholeBlocks : Type 0
 WholeBlocks = (m : List ℕ) → length (padded m) % 64 ≡ 0
