@@ -1,7 +1,7 @@
 #!/usr/bin/env python3
 """check_claims.py: holds each claim to a proof of exactly its type, in the proofs of its own crate.
 
-A claim is a type without arguments in a specs/Claims.antt, or in slate's specs/BenchSheet.antt: `abbrev pub NAME :
+A claim is a type without arguments in a specs/Claims.antt, or in a specs/BenchSheet.antt: `abbrev pub NAME :
 Type 0`. What takes arguments there, or is no type, is a part of claims. A proof is a declaration of type `claims.NAME`,
 with its definition, in a file that has the line `use Rattle.CRATE.specs.Claims as claims`; or of type `NAME`, where
 such a line brings that name itself.
@@ -34,7 +34,7 @@ def declarations(lines):
 
 def claims():
     """Crate, file and name of each claim."""
-    for path in [*sorted(CRATES.glob("*/specs/Claims.antt")), CRATES / "slate/specs/BenchSheet.antt"]:
+    for path in [*sorted(CRATES.glob("*/specs/Claims.antt")), *sorted(CRATES.glob("*/specs/BenchSheet.antt"))]:
         for name, kind in declarations(statements(path)):
             if re.fullmatch(r"Type \d+", kind):
                 yield path.parent.parent.name, path.stem, name
