@@ -18,7 +18,7 @@ use Rattle.inclusion.proofs.proving.proof.Tie as tie
 -- where the log opened
 opens : (c : tie.After-start)
     → openedLog (c .before .before .before .before .before .args .log .now) ≡ opened.Log (c .start .given .0 .0) (c .start .given .0 .1 .0)
-opens c = sym (c .before .before .open-log .ensures) ∙ c .start .given .1
+opens c = sym (c .before .before .open-log .ensures .0) ∙ c .start .given .1
 
 -- and has a value of this index
 there : (c : tie.Else1)
@@ -30,7 +30,7 @@ there c =
     record { opens = opens (c .before .before .before); first = r .0; high = r .1 }
 
 returns : tie.Need-returns
-returns c = outcome-refused _ _ _ _ (no-log _ _ _ (sym (c .before .before .open-log .ensures) ∙ c .enum-told .given .1))
+returns c = outcome-refused _ _ _ _ (no-log _ _ _ (sym (c .before .before .open-log .ensures .0) ∙ c .enum-told .given .1))
 
 returns-2 : tie.Need-returns-2
 returns-2 c =

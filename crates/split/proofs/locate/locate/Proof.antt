@@ -13,23 +13,23 @@ first-opens : (c : tie.After-known-told)
     → let g = c .before .first-last .given .0 in
     openedLog (c .before .before .before .before .before .before .before .args .first .now) ≡ opened.Log (g .0) (g .1 .0)
 first-opens c =
-    rw (c .before .before .before .before .reborrow .ensures) at (sym (c .before .before .before .open-log .ensures)) ∙ c .before .first-last .given .1
+    rw (c .before .before .before .before .reborrow .ensures) at (sym (c .before .before .before .open-log .ensures .0)) ∙ c .before .first-last .given .1
 
 second-opens : (c : tie.After-known-told2)
     → let g = c .before .second-last .given .0 in
     let b = c .before .before .before .before .before .before .before .before .before .before .before .before .before in
     openedLog (b .args .second .now) ≡ opened.Log (g .0) (g .1 .0)
 second-opens c =
-    rw (c .before .before .before .before .reborrow2 .ensures) at (sym (c .before .before .before .open-log2 .ensures)) ∙ c .before .second-last .given .1
+    rw (c .before .before .before .before .reborrow2 .ensures) at (sym (c .before .before .before .open-log2 .ensures .0)) ∙ c .before .second-last .given .1
 
 returns : tie.Need-returns
 returns c =
-    first-unopened _ _ (rw (c .before .before .before .reborrow .ensures) at (sym (c .before .before .open-log .ensures)) ∙ c .enum-told .given .1)
+    first-unopened _ _ (rw (c .before .before .before .reborrow .ensures) at (sym (c .before .before .open-log .ensures .0)) ∙ c .enum-told .given .1)
 
 returns-2 : tie.Need-returns-2
 returns-2 c =
     second-unopened _ _ _ _ (first-opens (c .before .before .before .before .before))
-    (rw (c .before .before .before .reborrow2 .ensures) at (sym (c .before .before .open-log2 .ensures)) ∙ c .enum-told2 .given .1)
+    (rw (c .before .before .before .reborrow2 .ensures) at (sym (c .before .before .open-log2 .ensures .0)) ∙ c .enum-told2 .given .1)
 
 -- where the first log's tally had begun
 abbrev first : tie.After-begun2 → tie.After-begun
