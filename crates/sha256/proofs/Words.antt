@@ -1,14 +1,15 @@
--- Words of a list of bytes, and an array that is filled with them one by one.
+-- Words and their bytes, words of a list of bytes, and an array that is filled with them one by one.
 -- Assumes nothing.
 use mathlib.Core.List.{List, [], _∷_, _++_}
 use mathlib.Core.Logic.{_⊎_, inl, inr, ⊎-elim}
 use mathlib.Core.Path.{_≡_, refl, sym, ap, ap₂, _∙_}
-use Prim.Native.Nat.{ℕ, zero, suc, _+_, _*_, _≤_, _<_}
+use Prim.Native.Nat.{ℕ, zero, suc, _+_, _*_, _/_, _%_, _^_, _≤_, _<_}
 use native.Mathlib.Decide.{decLt}
 use native.Mathlib.Nat.{eq-or-lt-of-le, add-assoc}
 use native.Mathlib.Omega.{arith}
 use lib.ListN.{length, getD, set, replicate, length-set, getD-replicate, List·getD-append, List·getD-eq-default}
 use lib.Seq.{ext-getD, getD-set-same, getD-set-other}
+use Rattle.sha256.specs.Claims as claims
 use Rattle.sha256.specs.Fips180.{wordAt, wordsAt}
 
 pub lt-or-le : (a b : ℕ) → (a < b) ⊎ (b ≤ a)
@@ -17,6 +18,16 @@ lt-or-le a b = go (decLt a b)
     go : Dec (a < b) → (a < b) ⊎ (b ≤ a)
     go (yes h) = inl h
     go (no n) = inr (omega arith)
+
+-- a word is its four bytes
+pub word-bytes : claims.WordBytes
+word-bytes a b c d la lb lc ld =
+    let n : ℕ = a * 2 ^ 24 + b * 2 ^ 16 + c * 2 ^ 8 + d in
+    let e0 : n / 2 ^ 24 % 256 ≡ a = omega arith in
+    let e1 : n / 2 ^ 16 % 256 ≡ b = omega arith in
+    let e2 : n / 2 ^ 8 % 256 ≡ c = omega arith in
+    let e3 : n % 256 ≡ d = omega arith in
+    (omega arith, rw (e0, e1, e2, e3))
 
 -- a word depends on its four bytes
 pub word-same : (p q : List ℕ) (j : ℕ) → ((k : ℕ) → j ≤ k → k < j + 4 → getD p k 0 ≡ getD q k 0) → wordAt p j ≡ wordAt q j
