@@ -149,8 +149,9 @@ static bool find_split(const struct log *ring, const struct log *copy, size_t *c
     return true;
 }
 
-/* Makes the copy into its values in common and the ring's piece behind them, audited anew. True
-   only if it has the ring's root then. */
+/* Makes the copy into its values in common and the ring's piece behind them, audited anew. The cut
+   blanks the buffer behind the values in common: what the copy gives up is gone with it, and the
+   bytes behind the piece are 0xFF. True only if the copy has the ring's root then. */
 static bool take_piece(struct log *copy, size_t common, const struct log *ring,
                        struct ringlog_piece piece)
 {
@@ -159,12 +160,13 @@ static bool take_piece(struct log *copy, size_t common, const struct log *ring,
     if (!answered("cut", end.number)) {
         return false;
     }
-    if (piece.length > RINGLOG_LONGEST_LOG - end.value) {
+    copy->used = (size_t)end.value;
+    if (piece.length > RINGLOG_LONGEST_LOG - copy->used) {
         printf("take: no room\n");
         return false;
     }
-    memcpy(copy->bytes + end.value, ring->bytes + piece.offset, (size_t)piece.length);
-    copy->used = (size_t)(end.value + piece.length);
+    memcpy(copy->bytes + copy->used, ring->bytes + piece.offset, (size_t)piece.length);
+    copy->used += (size_t)piece.length;
     return keep_well_formed("repaired", copy)
         && memcmp(copy->root, ring->root, RINGLOG_DIGEST) == 0;
 }
@@ -202,29 +204,32 @@ static const char *kind_name(uint8_t kind)
 
 /* True only if value `index` of the copy is proved under the ring's root, and with one bit changed
    is not. The root is that of as many values as the ring has, so a copy that has more is cut to as
-   many. The check needs no log: count, index, item, proof and root are all that it is lent. */
-static bool prove(struct log *copy, const struct log *ring, size_t index)
+   many. A cut blanks what it cuts off, so it is made in other memory, and the copy keeps its values.
+   The check needs no log: count, index, item, proof and root are all that it is lent. */
+static bool prove(const struct log *copy, const struct log *ring, size_t index)
 {
+    static uint8_t first[RINGLOG_LONGEST_LOG];
     uint8_t proof[RINGLOG_LONGEST_PROOF];
     uint8_t item[RINGLOG_LONGEST_ITEM];
-    struct ringlog_count end =
-        ringlog_cut(copy->bytes, RINGLOG_LONGEST_LOG, copy->used, ring->entries);
+    struct ringlog_count end;
     struct ringlog_part value;
     struct ringlog_count made;
     bool accepted, forged;
 
+    memcpy(first, copy->bytes, copy->used);
+    end = ringlog_cut(first, sizeof first, copy->used, ring->entries);
     if (!answered("cut", end.number)) {
         return false;
     }
-    value = ringlog_value(copy->bytes, (size_t)end.value, ring->root, RINGLOG_DIGEST, index);
+    value = ringlog_value(first, (size_t)end.value, ring->root, RINGLOG_DIGEST, index);
     if (!answered("value", value.number)) {
         return false;
     }
-    made = ringlog_proof(copy->bytes, (size_t)end.value, index, proof, sizeof proof);
+    made = ringlog_proof(first, (size_t)end.value, index, proof, sizeof proof);
     if (!answered("proof", made.number)) {
         return false;
     }
-    memcpy(item, copy->bytes + value.offset, (size_t)value.length);
+    memcpy(item, first + value.offset, (size_t)value.length);
     accepted = ringlog_check_proof(ring->entries, index, item, (size_t)value.length, proof,
                                    (size_t)made.value, ring->root, RINGLOG_DIGEST);
     printf("proof: value %zu, %s, bytes %" PRIu64 ": %s\n", index, kind_name(item[0]), made.value,

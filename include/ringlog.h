@@ -65,12 +65,13 @@
  * entry of that length and the right shape ends with them, whatever stands before that entry. In
  * what follows, n is the index of the last entry of a log that opens, and 0 for an empty log.
  *
- * Only the audit looks at every byte, so only its time grows with the log. Append and root look at
- * the last entry. Cut, value and proof go from there to the entry that is wanted, from the top of
- * the tree down, by at most 12 links; search and repair do so in two logs, and in each at most
- * twice. A link is a left offset and a left digest: the entry there must have the right shape and
- * the index wanted (else 6), and then it must store that digest (else 7). No other entry is looked
- * at, so what else stands in the log does not matter to them.
+ * Only the audit looks at every byte, so only its time grows with the log, and that of a cut with
+ * the bytes that it blanks. Append and root look at the last entry. Cut, value and proof go from
+ * there to the entry that is wanted, from the top of the tree down, by at most 12 links; search and
+ * repair do so in two logs, and in each at most twice. A link is a left offset and a left digest:
+ * the entry there must have the right shape and the index wanted (else 6), and then it must store
+ * that digest (else 7). No other entry is looked at, so what else stands in the log does not matter
+ * to them.
  *
  * SIZES, in bytes
  *
@@ -263,10 +264,10 @@ struct ringlog_count ringlog_append(uint8_t *buffer, size_t buffer_len, size_t u
  * many bytes. Both may be 0. What follows it was torn or damaged, or belongs to no log; nothing
  * does where bytes equals bytes_len. Refuses nothing and writes nothing.
  *
- * After a torn append, audit and go on with bytes as used. The audit goes by the bytes alone:
- * entries that were cut off count again where they still stand in the bytes that it is lent. And it
- * finds damage, not forgery: anybody can write a well-formed log of other values. Whether it is the
- * right log is seen by its root, beside a root that the caller trusts.
+ * After a torn append, audit and go on with bytes as used; ringlog_cut to so many entries blanks
+ * what the append left behind them. The audit goes by the bytes alone, and finds damage, not
+ * forgery: anybody can write a well-formed log of other values. Whether it is the right log is seen
+ * by its root, beside a root that the caller trusts.
  *
  * Example, three taps without their last byte, and with it:
  *
@@ -306,7 +307,7 @@ struct ringlog_digest ringlog_root(const uint8_t *log, size_t log_len);
  *   2  index is 0 or above n;
  *   6, 7  a link on the way does not hold, from the top down, in one link 6 before 7;
  *   7  the fold does not give the root, as with the root of fewer or more values (where the root is
- *      that of the log's first values, cut to so many, and ask in what is left).
+ *      that of the log's first values, cut a copy to so many, and ask in what is left).
  *
  * Example, value 2 against a root that was kept in a safe place:
  *
@@ -370,19 +371,30 @@ bool ringlog_check_proof(size_t count, size_t index, const uint8_t *item, size_t
  * and used for a count of n; these two follow no link. The bytes of a well-formed log up to that
  * end are the well-formed log of its first values.
  *
- * No byte of the buffer is touched: behind the new used the old entries stand until they are
- * overwritten, and an audit that is lent them counts them again. So keep used, or overwrite them.
+ * Every byte from that end to the end of the buffer becomes 0xff, also behind used, also for a
+ * count of n: lend no byte that must stay. A cut to 0 with used 0 blanks any buffer. Nothing that
+ * was cut off from a well-formed log counts again: an audit of the whole buffer gives `count`
+ * entries, even if an append behind them was torn, so that of its entry only some first bytes were
+ * written.
  *
- * Refused, the first that applies, with value 0:
+ * Refused, the first that applies, with value 0, and no byte is written:
  *   1  used is above buffer_len;
  *   6  the log does not open;
  *   2  count is above n;
  *   6, 7  a link on the way does not hold, from the top down, in one link 6 before 7.
  *
- * Example, to the first value:
+ * Example, a copy cut to its first value, and then an append whose last byte is not written:
  *
- *     struct ringlog_count cut = ringlog_cut(ring, sizeof ring, used, 1);
+ *     static uint8_t copy[RINGLOG_LONGEST_LOG];
+ *     memcpy(copy, ring, used);
+ *     struct ringlog_count cut = ringlog_cut(copy, sizeof copy, used, 1);
  *     assert(cut.number == RINGLOG_ANSWERED && cut.value == 52);
+ *     assert(copy[52] == 0xff && copy[sizeof copy - 1] == 0xff);
+ *
+ *     struct ringlog_count next = ringlog_append(copy, sizeof copy, 52, tap, sizeof tap);
+ *     assert(ringlog_audit(copy, sizeof copy).bytes == next.value);
+ *     copy[next.value - 1] = 0xff;
+ *     assert(ringlog_audit(copy, sizeof copy).bytes == 52);
  */
 struct ringlog_count ringlog_cut(uint8_t *buffer, size_t buffer_len, size_t used, size_t count);
 
@@ -451,11 +463,12 @@ struct ringlog_split ringlog_search(const uint8_t *first, size_t first_len,
  * Example, the phone takes what it lacks from the ring, which has more entries, if it has the room:
  *
  *     struct ringlog_piece piece = ringlog_repair(ring, used, phone, phone_used);
- *     struct ringlog_count kept = ringlog_cut(phone, sizeof phone, phone_used, split.common);
- *     if (piece.donor == RINGLOG_FIRST && kept.number == RINGLOG_ANSWERED
- *         && piece.length <= sizeof phone - kept.value) {
- *         memcpy(phone + kept.value, ring + piece.offset, piece.length);
- *         phone_used = (size_t)(kept.value + piece.length);
+ *     if (piece.donor == RINGLOG_FIRST && used <= sizeof phone) {
+ *         struct ringlog_count kept = ringlog_cut(phone, sizeof phone, phone_used, split.common);
+ *         if (kept.number == RINGLOG_ANSWERED && piece.length <= sizeof phone - kept.value) {
+ *             memcpy(phone + kept.value, ring + piece.offset, piece.length);
+ *             phone_used = (size_t)(kept.value + piece.length);
+ *         }
  *     }
  *     assert(ringlog_audit(phone, phone_used).bytes == phone_used);
  *     assert(phone_used == used && memcmp(phone, ring, used) == 0);

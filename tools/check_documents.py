@@ -157,7 +157,7 @@ def check_claims_named(document):
 
 
 def main():
-    for path in [TOP / "README.md", TOP / "samples/README.md", *sorted((TOP / "docs").glob("*.md"))]:
+    for path in [*sorted(TOP.glob("*.md")), TOP / "samples/README.md", *sorted((TOP / "docs").rglob("*.md"))]:
         check_links(path.relative_to(TOP))
     check_demands("docs/DEMANDS.md")
     check_public_calls("docs/DEMANDS.md")

@@ -238,22 +238,58 @@ static void append_three_taps(void)
           "three taps take 296 bytes");
 }
 
+/* The three taps, and eight bytes behind them. */
+static void lend_three_taps(uint8_t buffer[304])
+{
+    memset(buffer, 0x77, 304);
+    memcpy(buffer, three_taps, sizeof three_taps);
+}
+
+/* Whether the three taps, cut to so many in a buffer of 296 to 304 bytes, answer this end. The taps
+   before it are as they were then, and from there to the end of the buffer, not further, is 0xFF. */
+static int is_cut(size_t len, size_t count, size_t end)
+{
+    uint8_t buffer[304];
+    uint8_t expected[304];
+
+    lend_three_taps(buffer);
+    lend_three_taps(expected);
+    memset(expected + end, 0xff, len - end);
+    return is_count(ringlog_cut(buffer, len, 296, count), 0, end)
+        && memcmp(buffer, expected, sizeof buffer) == 0;
+}
+
 static void check_cuts(void)
 {
-    uint8_t log[296];
+    check(is_cut(296, 3, 296), "a cut to n answers used");
+    check(is_cut(296, 2, 174), "a cut to 2 answers the end of entry 2 and blanks what is behind it");
+    check(is_cut(296, 1, 52), "a cut to 1 answers the end of entry 1 and blanks what is behind it");
+    check(is_cut(296, 0, 0), "a cut to 0 answers 0 and blanks all");
+    check(is_cut(304, 3, 296), "a cut to n blanks the bytes behind used");
+    check(is_cut(304, 1, 52), "a cut to 1 blanks the bytes behind used too");
+    check(is_cut(304, 0, 0), "a cut to 0 blanks the whole buffer");
+}
 
-    memcpy(log, three_taps, sizeof log);
-    check(is_count(ringlog_cut(log, 296, 296, 3), 0, 296), "a cut to n answers used");
-    check(is_count(ringlog_cut(log, 296, 296, 2), 0, 174), "a cut to 2 answers the end of entry 2");
-    check(is_count(ringlog_cut(log, 296, 296, 1), 0, 52), "a cut to 1 answers the end of entry 1");
-    check(is_count(ringlog_cut(log, 296, 296, 0), 0, 0), "a cut to 0 answers 0");
-    check(is_count(ringlog_cut(log, 296, 297, 4), 1, 0), "used above the buffer is 1");
-    check(is_count(ringlog_cut(log, 296, 295, 4), 6, 0), "what does not open is 6");
-    check(is_count(ringlog_cut(log, 296, 296, 4), 2, 0), "a cut to n + 1 is 2");
-    check(memcmp(log, three_taps, sizeof log) == 0, "a cut touches no byte");
-    log[0] ^= 1;
-    check(is_count(ringlog_cut(log, 296, 296, 1), 6, 0), "an entry met that is not shaped is 6");
-    check(is_count(ringlog_cut(log, 296, 296, 2), 0, 174),
+/* Byte 0 is the kind of entry 1's index item, and byte 15 the first of its leaf digest. */
+static void check_refused_cuts(void)
+{
+    uint8_t buffer[304];
+    uint8_t before[304];
+
+    lend_three_taps(buffer);
+    buffer[0] ^= 1;
+    memcpy(before, buffer, sizeof before);
+    check(is_count(ringlog_cut(buffer, 304, 305, 4), 1, 0), "used above the buffer is 1");
+    check(is_count(ringlog_cut(buffer, 304, 295, 4), 6, 0), "what does not open is 6");
+    check(is_count(ringlog_cut(buffer, 304, 296, 4), 2, 0), "a cut to n + 1 is 2");
+    check(is_count(ringlog_cut(buffer, 304, 296, 1), 6, 0), "an entry met that is not shaped is 6");
+    check(memcmp(buffer, before, sizeof before) == 0, "a refused cut writes nothing");
+    buffer[0] ^= 1;
+    buffer[15] ^= 1;
+    memcpy(before, buffer, sizeof before);
+    check(is_count(ringlog_cut(buffer, 304, 296, 1), 7, 0), "an entry met with another digest is 7");
+    check(memcmp(buffer, before, sizeof before) == 0, "a cut that is refused with 7 writes nothing");
+    check(is_count(ringlog_cut(buffer, 304, 296, 2), 0, 174),
           "an entry that is not met does not matter");
 }
 
@@ -481,6 +517,7 @@ int main(void)
     check_refused_appends();
     append_three_taps();
     check_cuts();
+    check_refused_cuts();
     check_values();
     check_proofs();
     check_searches();

@@ -114,10 +114,16 @@ static void call_root(void)
     digest = ringlog_root(buffer, used);
 }
 
-/* The ways to entry 1, which is the deepest. */
+/* The ways to entry 1, which is the deepest. The cut is made in a copy of the log, since it blanks what
+   it cuts off. */
+static void copy_log(void)
+{
+    memcpy(other, buffer, used);
+}
+
 static void call_cut(void)
 {
-    count = ringlog_cut(buffer, sizeof buffer, used, 1);
+    count = ringlog_cut(other, sizeof other, used, 1);
 }
 
 static void call_value(void)
@@ -157,17 +163,25 @@ static void call_deep(void)
 }
 
 /* What the call takes beyond an empty function, in a line, and held to this limit. The call before it
-   leaves no work to the linker. */
-static void measure_within(size_t limit, const char *name, void (*call)(void))
+   leaves no work to the linker. What is prepared before each call is not measured. */
+static void measure_prepared(void (*prepare)(void), size_t limit, const char *name,
+                             void (*call)(void))
 {
     char sentence[100];
     size_t taken;
 
+    prepare();
     call();
+    prepare();
     taken = depth(call) - depth(call_nothing);
     printf("%6zu bytes of stack: %s\n", taken, name);
     snprintf(sentence, sizeof sentence, "%s takes less than %zu bytes of stack", name, limit);
     check(taken < limit, sentence);
+}
+
+static void measure_within(size_t limit, const char *name, void (*call)(void))
+{
+    measure_prepared(call_nothing, limit, name, call);
 }
 
 static void measure(const char *name, void (*call)(void))
@@ -216,7 +230,7 @@ static void measure_log_calls(void)
     check(extent.entries == 4095 && extent.bytes == used, "that audit counts 4,095 taps");
     measure("root of 4,095 taps", call_root);
     check(digest.number == 0, "that root is answered");
-    measure("cut of 4,095 taps to 1", call_cut);
+    measure_prepared(copy_log, LIMIT, "cut of 4,095 taps to 1", call_cut);
     check(count.number == 0 && count.value == 52, "that cut is answered");
     measure_within(VALUE_LIMIT, "checked value 1 of 4,095 taps", call_value);
     check(part.number == 0 && part.offset == 5 && part.length == TAP, "that value is answered");

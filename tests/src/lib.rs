@@ -18,7 +18,7 @@ pub mod model {
     pub mod sha256;
     pub mod tree;
     pub mod walk;
-    pub use calls::{append, cut, proof, root, value};
+    pub use calls::{append, cut, end_of_entry, proof, root, value};
     pub use comparison::compare;
     pub use inclusion::check_proof;
     pub use log::{audit, Log};

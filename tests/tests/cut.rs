@@ -1,5 +1,5 @@
-//! The library's cut: of a log, the end of entry d as document 01 writes it; of any bytes, what the
-//! model answers. No byte is touched.
+//! The library's cut: of a log, the end of entry d as document 01 writes it, and 0xFF from there to the
+//! end of the buffer; of any bytes, what the model answers and leaves. A refused cut writes nothing.
 
 use ringlog_tests::answers::{done, refusal};
 use ringlog_tests::bent::each_bent;
@@ -14,17 +14,25 @@ use ringlog_tests::refused::{self, FAR_ABOVE};
 use ringlog_tests::ringlog::Count;
 use ringlog_tests::ways::only_met;
 use ringlog_tests::{model, ringlog};
+use std::collections::BTreeSet;
 
-/// Cuts in the buffer, which has other bytes around it. The answer is held to the model's, and all
-/// these bytes to what they were.
-fn cut(buffer: &[u8], used: usize, d: usize, case: impl Fn() -> String) -> Count {
+/// Cuts in a buffer of these bytes, which has other bytes around it. Gives the answer, and the buffer
+/// afterwards. Both are held to the model's, and the bytes around to what they were, as all bytes are
+/// where the cut is refused.
+fn cut_in(buffer: &[u8], used: usize, d: usize, case: impl Fn() -> String) -> (Count, Vec<u8>) {
     let mut memory = Memory::among(0x5a, buffer);
-    let before = memory.clone();
+    let mut expected = memory.clone();
     let answer = ringlog::cut(memory.lent_mut(), used, d);
-    let expected = model::cut(buffer, used, d).into();
-    assert_eq!(answer, expected, "cut to {d} at {used}: {}", case());
-    assert!(memory == before, "cut to {d} at {used}: {}", case());
-    answer
+    let by_model = model::cut(expected.lent_mut(), used, d).into();
+    assert_eq!(answer, by_model, "cut to {d} at {used}: {}", case());
+    let same = memory == expected && (answer.number == 0 || memory.lent() == buffer);
+    assert!(same, "bytes of a cut to {d} at {used}: {}", case());
+    (answer, memory.lent().to_vec())
+}
+
+/// The answer of a cut in a buffer of these bytes, held to the model's, as the bytes afterwards are.
+fn cut(buffer: &[u8], used: usize, d: usize, case: impl Fn() -> String) -> Count {
+    cut_in(buffer, used, d, case).0
 }
 
 /// Cuts a log that fills its buffer.
@@ -56,15 +64,13 @@ fn long_logs_cut_at_their_edges_and_elsewhere_answer_the_end_of_entry_d() {
     let mut random = Random::new(2);
     let log = logs::log(4_095, &mut random);
     for n in LONG {
-        let used = log.end(n);
-        let mut buffer = log.bytes()[..used].to_vec();
+        let case = || format!("{n} values");
         for d in logs::indexes(n, &mut random) {
-            let answer = ringlog::cut(&mut buffer, used, d);
+            let answer = cut_log(log.beginning(n), d, case);
             assert_eq!(answer, done(log.end(d)), "{n} values, cut to {d}");
         }
-        assert_eq!(ringlog::cut(&mut buffer, used, 0), done(0));
-        assert_eq!(ringlog::cut(&mut buffer, used, n + 1), refusal(2));
-        assert!(buffer == log.bytes()[..used], "{n} values");
+        assert_eq!(cut_log(log.beginning(n), 0, case), done(0));
+        assert_eq!(cut_log(log.beginning(n), n + 1, case), refusal(2));
     }
 }
 
@@ -73,9 +79,15 @@ fn a_full_log_cut_to_every_d_answers_the_end_of_entry_d_and_4097_gives_2() {
     let log = logs::log(4_096, &mut Random::new(3));
     let mut buffer = log.bytes().to_vec();
     let used = buffer.len();
+    let blank = vec![0xff; used];
     for d in 0..=4_096 {
-        assert_eq!(ringlog::cut(&mut buffer, used, d), done(log.end(d)), "{d}");
+        buffer.copy_from_slice(log.bytes());
+        let end = log.end(d);
+        assert_eq!(ringlog::cut(&mut buffer, used, d), done(end), "{d}");
+        assert!(buffer[..end] == *log.beginning(d), "{d}");
+        assert!(buffer[end..] == blank[end..], "{d}");
     }
+    buffer.copy_from_slice(log.bytes());
     assert_eq!(ringlog::cut(&mut buffer, used, 4_097), refusal(2));
     assert!(buffer == log.bytes());
 }
@@ -85,15 +97,86 @@ fn what_is_left_by_a_cut_is_the_log_of_the_first_d_values() {
     let mut random = Random::new(4);
     let log = logs::log(40, &mut random);
     let values: Vec<_> = (1..=40).map(|i| log.value(i)).collect();
-    let mut buffer = log.bytes().to_vec();
-    let used = buffer.len();
+    let used = log.bytes().len();
     for d in 0..=40 {
+        let mut buffer = log.bytes().to_vec();
         let end = ringlog::cut(&mut buffer, used, d).value as usize;
         let mut first = Log::of(&values[..d]);
         assert_eq!(&buffer[..end], first.bytes(), "cut to {d}");
         assert_eq!(ringlog::audit(&buffer[..end]), (d, end).into(), "{d}");
+        assert_eq!(ringlog::audit(&buffer), (d, end).into(), "{d}");
         assert_eq!(ringlog::root(&buffer[..end]).digest, first.root(), "{d}");
     }
+}
+
+/// Logs of some lengths, the empty one too, in buffers with nothing behind used, or with some bytes.
+#[test]
+fn the_part_before_the_new_end_is_the_log_of_the_first_d_values_and_the_rest_is_0xff() {
+    let mut random = Random::new(24);
+    for n in [0, 1, 2, 3, 7, 8, 22, 40] {
+        let log = logs::log(n, &mut random);
+        let used = log.bytes().len();
+        for behind in [0, 1, 8, 1_000] {
+            let buffer = [log.bytes(), &random.bytes(behind)].concat();
+            for d in 0..=n {
+                let case = || format!("{n} values, {behind} bytes behind them");
+                let (answer, left) = cut_in(&buffer, used, d, case);
+                let first = log.beginning(d);
+                assert_eq!(answer, done(first.len()), "{}, {d}", case());
+                let blank = vec![0xff; buffer.len() - first.len()];
+                assert!(left == [first, &blank].concat(), "{}, {d}", case());
+            }
+        }
+    }
+}
+
+/// Two taps, and eight bytes behind them or an entry that once followed.
+#[test]
+fn the_bytes_behind_used_become_0xff_too_also_for_d_equal_to_n() {
+    let mut random = Random::new(25);
+    let log = logs::taps(3, &mut random);
+    let (taps, third) = log.bytes().split_at(log.end(2));
+    let behind_used: [&[u8]; 4] = [&[0x00; 8], &[0x30; 8], &random.bytes(8), third];
+    for behind in behind_used {
+        let buffer = [taps, behind].concat();
+        for (d, new_end) in [(0, 0), (1, 52), (2, 174)] {
+            let (answer, left) = cut_in(&buffer, 174, d, || format!("{behind:02x?}"));
+            assert_eq!(answer, done(new_end), "cut to {d}");
+            assert_eq!(left[..new_end], taps[..new_end], "cut to {d}");
+            let blank = vec![0xff; buffer.len() - new_end];
+            assert_eq!(left[new_end..], blank, "cut to {d}");
+        }
+        let (answer, left) = cut_in(behind, 0, 0, || "an empty log".to_string());
+        assert_eq!(answer, done(0));
+        assert_eq!(left, vec![0xff; behind.len()]);
+    }
+}
+
+/// Bytes that do not open, and logs of eight values whose steps to entry 1 hold or not, with some bytes
+/// behind them.
+#[test]
+fn a_refused_cut_writes_nothing_whatever_it_is_refused_for() {
+    let mut random = Random::new(26);
+    let log = logs::log(8, &mut random);
+    let mut met = BTreeSet::new();
+    for ((name, bytes), opening, _) in refused::at_opening_or_steps(&log, &mut random) {
+        let buffer = [&bytes[..], &random.bytes(9)].concat();
+        for (used, d) in [(buffer.len() + 1, 1), (bytes.len(), 9), (bytes.len(), 1)] {
+            let mut memory = Memory::among(0x5a, &buffer);
+            let before = memory.clone();
+            let answer = ringlog::cut(memory.lent_mut(), used, d);
+            if answer.number != 0 {
+                assert!(memory == before, "{name}, used {used}, {d}");
+                met.insert(match answer.number {
+                    6 if opening.is_some() => (6, "opening"),
+                    6 | 7 => (answer.number, "step"),
+                    number => (number, ""),
+                });
+            }
+        }
+    }
+    let all = [(1, ""), (2, ""), (6, "opening"), (6, "step"), (7, "step")];
+    assert!(met.iter().eq(&all), "{met:?}");
 }
 
 #[test]
@@ -361,10 +444,18 @@ fn the_end_of_an_entry_may_lie_above_2_to_the_32() {
     let mut far = Far::forged(&mut Random::new(21));
     for (offset, number) in [(LIMIT - 1, 0), (LIMIT, 6), (LIMIT + 1, 6)] {
         let used = far.put(offset);
+        let by_model = model::end_of_entry(&far.buffer[..used], 2).into();
+        // The last bytes below 2^32 and all behind them.
+        let near = LIMIT - 4_096;
+        let mut expected = far.buffer[near..].to_vec();
+        if number == 0 {
+            expected[used - near..].fill(0xff);
+        }
         let answer = ringlog::cut(far.buffer, used, 2);
-        assert_eq!(answer, model::cut(far.buffer, used, 2).into(), "{offset}");
+        assert_eq!(answer, by_model, "{offset}");
         assert_eq!(answer.number, number, "{offset}");
         assert!(number != 0 || answer == done(used), "{offset}");
+        assert!(far.buffer[near..] == expected, "{offset}");
     }
 }
 

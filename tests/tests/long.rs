@@ -118,10 +118,12 @@ fn what_is_beside_the_way_to_an_entry_of_a_long_log_does_not_matter() {
     for n in COUNTS {
         let root = model::root(log.beginning(n)).expect("a root");
         for i in indexes(n) {
-            let mut bytes = only_met(log, n, i, &mut random);
-            let used = bytes.len();
-            let answer = ringlog::cut(&mut bytes, used, i);
+            let bytes = only_met(log, n, i, &mut random);
+            let (mut left, mut expected) = (bytes.clone(), bytes.clone());
+            let answer = ringlog::cut(&mut left, bytes.len(), i);
             assert_eq!(answer, done(log.end(i)), "{i} of {n}");
+            assert_eq!(answer, model::cut(&mut expected, bytes.len(), i).into());
+            assert!(left == expected, "{i} of {n}");
             let (start, len) = (log.end(i - 1) + 5, log.value(i).len());
             let answer = ringlog::value(&bytes, &root, i);
             assert_eq!(answer, Ok(start..start + len).into(), "{i} of {n}");

@@ -270,8 +270,36 @@ fn every_path_folds_to_the_root_of_the_tree_and_is_the_proof_that_the_log_gives(
             assert_eq!(proof, path.concat(), "{i} of {n}");
             let value = model::value(log.bytes(), &root, i).map(|part| &log.bytes()[part]);
             assert_eq!(value, Ok(log.value(i)), "{i} of {n}");
-            assert_eq!(model::cut(log.bytes(), log.end(n), i), Ok(log.end(i)));
+            assert_eq!(model::end_of_entry(log.bytes(), i), Ok(log.end(i)));
         }
+    }
+}
+
+/// Two taps, which end at 52 and at 174, and eight bytes behind them.
+#[test]
+fn cuts_of_two_taps_blank_what_is_behind_the_new_end_or_are_refused_as_written_out() {
+    let taps = Log::of(&numbered_taps(2)).bytes().to_vec();
+    let buffer = [&taps[..], &[0x77; 8]].concat();
+    for (d, new_end) in [(0, 0), (1, 52), (2, 174)] {
+        let mut buffer = buffer.clone();
+        assert_eq!(model::cut(&mut buffer, 174, d), Ok(new_end));
+        let blank = vec![0xff; 182 - new_end];
+        assert_eq!(buffer, [&taps[..new_end], &blank].concat(), "cut to {d}");
+    }
+    // Entry 1's first byte is that of its index item, and byte 15 the first of its leaf digest.
+    let refused = [
+        (0, 183, 3, 1),
+        (0, 182, 3, 6),
+        (0, 174, 3, 2),
+        (0, 174, 1, 6),
+        (15, 174, 1, 7),
+    ];
+    for (bent, used, d, number) in refused {
+        let mut bytes = buffer.clone();
+        bytes[bent] ^= 0x01;
+        let before = bytes.clone();
+        assert_eq!(model::cut(&mut bytes, used, d), Err(number));
+        assert_eq!(bytes, before, "refused with {number}");
     }
 }
 
@@ -305,14 +333,14 @@ fn forged_logs_are_what_they_are_said_to_be() {
         let bytes = invented.bytes();
         assert_eq!(model::audit(&bytes), (0, 0), "{n} values");
         for i in 1..=n {
-            let end = model::cut(&bytes, bytes.len(), i);
+            let end = model::end_of_entry(&bytes, i);
             assert_eq!(end, Ok(invented.end(i)), "{i} of {n}");
         }
     }
     let bytes = links::overlapping(&mut random);
-    assert_eq!(model::cut(&bytes, bytes.len(), 2), Ok(124));
+    assert_eq!(model::end_of_entry(&bytes, 2), Ok(124));
     let bytes = links::running_out(&mut random);
-    assert_eq!(model::cut(&bytes, RUNNING_OUT, 2), Err(6));
+    assert_eq!(model::end_of_entry(&bytes[..RUNNING_OUT], 2), Err(6));
 }
 
 #[test]

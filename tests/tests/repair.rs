@@ -41,20 +41,27 @@ fn repair(first: &[u8], second: &[u8], case: impl Fn() -> String) -> Piece {
     piece
 }
 
-/// Cuts the log that is not the donor to the common count and puts the piece behind it. Answers
-/// what this gives, and the donor.
-fn repaired<'a>(first: &'a [u8], second: &'a [u8], piece: Piece) -> (Vec<u8>, &'a [u8]) {
+/// The donor, the log that is not the donor, and the bytes of the piece.
+fn parts<'a>(first: &'a [u8], second: &'a [u8], piece: Piece) -> [&'a [u8]; 3] {
     let (donor, other) = match piece.donor {
         1 => (first, second),
         2 => (second, first),
         donor => panic!("donor {donor}"),
     };
+    let bytes = &donor[piece.offset as usize..][..piece.length as usize];
+    [donor, other, bytes]
+}
+
+/// Cuts the log that is not the donor to the common count and puts the piece behind it. Answers
+/// what this gives, and the donor.
+fn repaired<'a>(first: &'a [u8], second: &'a [u8], piece: Piece) -> (Vec<u8>, &'a [u8]) {
+    let [donor, other, bytes] = parts(first, second, piece);
     let common = ringlog::search(first, second).common as usize;
     let mut joined = other.to_vec();
     let cut = ringlog::cut(&mut joined, other.len(), common);
     assert_eq!(cut.number, 0, "a cut to {common}");
     joined.truncate(cut.value as usize);
-    joined.extend(&donor[piece.offset as usize..][..piece.length as usize]);
+    joined.extend(bytes);
     (joined, donor)
 }
 
@@ -81,6 +88,34 @@ fn the_other_log_cut_to_the_common_count_and_then_the_piece_is_the_donor_byte_fo
                 if (m1 + m2) % 7 == 0 {
                     let whole = (m1.max(m2), joined.len());
                     assert_eq!(ringlog::audit(&joined), whole.into(), "{}", case());
+                }
+            }
+        }
+    }
+}
+
+/// The piece is written at the new end, which leaves 0xFF or no byte behind it.
+#[test]
+fn in_a_buffer_with_room_the_other_log_cut_and_then_the_piece_is_the_donor_and_0xff_behind_it() {
+    let mut random = Random::new(16);
+    let list = values(20, &mut random);
+    let log = Log::of(&list);
+    for common in 0..=20 {
+        let parted = Log::of(&parted_at(&list, common + 1, &mut random));
+        for m1 in common..=20 {
+            for m2 in common..=20 {
+                let case = || format!("{m1} and {m2} values, {common} in common");
+                let (first, second) = (log.beginning(m1), parted.beginning(m2));
+                let piece = repair(first, second, case);
+                let [donor, other, bytes] = parts(first, second, piece);
+                for room in [0, 1, 99] {
+                    let len = donor.len().max(other.len()) + room;
+                    let mut buffer = [other, &random.bytes(len - other.len())].concat();
+                    let cut = ringlog::cut(&mut buffer, other.len(), common);
+                    assert_eq!(cut.number, 0, "{}", case());
+                    buffer[cut.value as usize..][..bytes.len()].copy_from_slice(bytes);
+                    let blank = vec![0xff; len - donor.len()];
+                    assert!(buffer == [donor, &blank].concat(), "{}", case());
                 }
             }
         }

@@ -17,7 +17,7 @@ type Outcome = (&'static str, u32, u32);
 fn outcome(first: &[u8], second: &[u8], split: Split) -> Outcome {
     let opens = |log: &[u8]| model::root(log).is_ok();
     let n = count(first).min(count(second));
-    let comes_to_n = |log: &[u8]| model::cut(log, log.len(), n).is_ok();
+    let comes_to_n = |log: &[u8]| model::end_of_entry(log, n).is_ok();
     if split.number == 0 {
         ("answered", 0, split.verdict)
     } else if !opens(first) || !opens(second) {

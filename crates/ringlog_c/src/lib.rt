@@ -133,7 +133,7 @@ pub extern "C" fn ringlog_root(log: &[u8]) -> DigestWire
 #[no_mangle]
 pub extern "C" fn ringlog_cut(buffer: &mut [u8], used: usize, count: usize) -> CountWire
     ensures { λ r. ⌜ r ≡ countWire (cutTo (now (buffer .entry)) used count) ⌝ }
-    ensures { λ _. ⌜ now (buffer .exit) ≡ afterCut (now (buffer .entry)) ⌝ }
+    ensures { λ _. ⌜ now (buffer .exit) ≡ afterCut (now (buffer .entry)) used count ⌝ }
 {
     count_wire(ringlog::cut(buffer, used, count))
 }

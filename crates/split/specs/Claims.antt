@@ -4,7 +4,7 @@ use mathlib.Core.List.{List, [], _∷_, _++_}
 use mathlib.Core.Logic.{_⊎_}
 use mathlib.Core.Path.{_≡_}
 use Prim.Native.Nat.{ℕ, suc, _+_, _-_, _≤_, _<_, min}
-use lib.ListN.{length, getD, take}
+use lib.ListN.{length, getD, take, replicate}
 use Rattle.sha256.specs.Reasons.{Decided, Reason}
 use Rattle.slate.specs.Address.{highest, leftChild, rightHeight}
 use Rattle.slate.specs.Bytes.{part}
@@ -12,18 +12,19 @@ use Rattle.slate.specs.Clash.{Clash}
 use Rattle.slate.specs.Comparison.{Compared, Verdict, byLength, compared, differAt, equal, firstShorter, secondShorter}
 use Rattle.slate.specs.Digits.{digit, maxHeight}
 use Rattle.slate.specs.Tree.{slate}
-use Rattle.entry.specs.Log.{Values, log}
+use Rattle.entry.specs.Log.{Begins, Values, log}
 use Rattle.entry.specs.Read.{digestAt, entryLenAt, leftDigestAt}
 use Rattle.entry.specs.Reasons.{Opens, StepFails, Unopened}
 use Rattle.entry.specs.Refusal.{causeNumber}
 use Rattle.entry.specs.Shape.{openedLog}
 use Rattle.entry.specs.Walk.{Kept, Place, arrived, descend, leftStep}
+use Rattle.entry.specs.Write.{writeAt}
 use Rattle.entry.specs.declared.Cause.{Cause}
 use Rattle.entry.specs.declared.Cause.the-variants as cause
 use Rattle.entry.specs.declared.Opened.the-variants as opened
 use Rattle.entry.specs.declared.Step.the-variants as step
 use Rattle.ringlog.specs.Answer.{counted}
-use Rattle.ringlog.specs.Cut.{cutTo}
+use Rattle.ringlog.specs.Cut.{afterCut, cutTo}
 use Rattle.split.specs.Answer.{Split, answerOf, splitOf}
 use Rattle.split.specs.Below.{blocked, down, leaf}
 use Rattle.split.specs.Reads.{readsFormula}
@@ -58,18 +59,24 @@ NamedDiffers =
     → searched (log vs) (log ws) ≡ answered f a d → f .verdict ≡ differAt i
     → (1 ≤ i) × (i ≤ length vs) × (i ≤ length ws) × (getD vs (i - 1) [] ≡ getD ws (i - 1) [] → ⊥)
 
--- the log b, cut to its first k values, and then the piece s are the log c
-abbrev pub Heals : List ℕ → ℕ → List ℕ → List ℕ → Type 0
-Heals b k s c = (end : ℕ) × (cutTo b (length b) k ≡ counted end) × (take end b ++ s ≡ c)
+-- what a cut to k leaves of the log in the first `used` bytes of the buffer b, and then the piece s, are the log c. Written there, where
+-- the buffer has room, it makes the buffer this log and 0xFF behind it
+abbrev pub Heals : List ℕ → ℕ → ℕ → List ℕ → List ℕ → Type 0
+Heals b used k s c =
+    (end : ℕ)
+    × (cutTo b used k ≡ counted end)
+    × (take end (afterCut b used k) ++ s ≡ c)
+    × (length c ≤ length b → writeAt (afterCut b used k) end s ≡ c ++ replicate (length b - length c) 0xFF)
 
--- where the search agrees with the comparison: the other log, cut to the common count, and then the piece are the donor byte for byte. The
--- donor has more entries; it is the first if equal
+-- where the search agrees with the comparison: the other log, in any buffer, cut to the common count, and then the piece are the donor
+-- byte for byte. The donor has more entries; it is the first if equal
 abbrev pub RepairHeals : Type 0
 RepairHeals =
     (vs ws : List (List ℕ)) (a d : Trace) → Values vs → Values ws → searched (log vs) (log ws) ≡ answered (compared vs ws) a d
     → (s : List ℕ) → s ≡ pieceOf (log vs) (log ws) (searched (log vs) (log ws))
-    → (length vs < length ws → Heals (log vs) (compared vs ws .common) s (log ws))
-    × (length ws ≤ length vs → Heals (log ws) (compared vs ws .common) s (log vs))
+    → (b : List ℕ)
+    → (length vs < length ws → Begins (log vs) b → Heals b (length (log vs)) (compared vs ws .common) s (log ws))
+    × (length ws ≤ length vs → Begins (log ws) b → Heals b (length (log ws)) (compared vs ws .common) s (log vs))
 
 -- ---- a well-formed log and any bytes
 

@@ -28,7 +28,7 @@ pub fn buffer(log: Vec<u8>, room: usize, random: &mut Random) -> (Vec<u8>, usize
 /// Where one of the log's entries ends, if the log opens and the links to that entry hold.
 pub fn end_of_one(log: &[u8], random: &mut Random) -> Option<usize> {
     let i = forged::index(log, random);
-    model::cut(log, log.len(), i).ok()
+    model::end_of_entry(log, i).ok()
 }
 
 /// A value item, or now and then bytes that are none.

@@ -45,7 +45,9 @@ pub fn outcomes(call: Call) -> &'static [Outcome] {
         Call::Cut => &[
             (0, "to 0"),
             (0, "to n"),
+            (0, "to n with bytes behind used"),
             (0, "between"),
+            (0, "between with bytes behind used"),
             (1, ""),
             (6, "opening"),
             (2, ""),
@@ -89,7 +91,7 @@ impl Case {
                 _ => "",
             },
             (Call::Value, Answer::Part(part), [log, _], [i]) => match part.number {
-                7 if model::cut(log, log.len(), *i).is_ok() => "fold",
+                7 if model::end_of_entry(log, *i).is_ok() => "fold",
                 number => opening_or_step(number, log),
             },
             (Call::Proof, Answer::Count(count), [log, _], _) => opening_or_step(count.number, log),
@@ -99,8 +101,12 @@ impl Case {
             }
             (Call::Cut, Answer::Count(count), [buffer], [used, d]) => match count.number {
                 0 if *d == 0 => "to 0",
-                0 if count.value == *used as u64 => "to n",
-                0 => "between",
+                0 => match (count.value == *used as u64, *used < buffer.len()) {
+                    (true, false) => "to n",
+                    (true, true) => "to n with bytes behind used",
+                    (false, false) => "between",
+                    (false, true) => "between with bytes behind used",
+                },
                 number => opening_or_step(number, &buffer[..*used.min(&buffer.len())]),
             },
             (Call::Search, Answer::Split(split), [first, second], _) => match split.number {

@@ -6,6 +6,8 @@ use crate::text::grouped;
 use ringlog_tests::model::Log;
 use ringlog_tests::random::Random;
 use ringlog_tests::{logs, model, plain, ringlog};
+use std::cell::RefCell;
+use std::rc::Rc;
 
 /// The message whose time gives that of one compression, and how many compressions it takes.
 pub const LONG_MESSAGE: (usize, u32) = (65_535, 1_025);
@@ -121,13 +123,20 @@ fn root(log: Vec<u8>) -> Row {
     })
 }
 
-fn cut(mut log: Vec<u8>) -> Row {
+/// In a buffer of the log's own length. A cut blanks what it cuts off, and the log is copied back before
+/// the next one.
+fn cut(log: Vec<u8>) -> Row {
     let name = format!("cut of {} to 1", taps(MANY));
     let used = log.len();
-    let answer = model::cut(&log, used, 1).into();
-    Row::alone(name, (100, 1), answer, move || {
-        ringlog::cut(&mut log, black_box(used), black_box(1))
-    })
+    let mut left = log.clone();
+    let answer = model::cut(&mut left, used, 1).into();
+    let buffer = Rc::new(RefCell::new(log.clone()));
+    let lent = Rc::clone(&buffer);
+    let row = Row::alone(name, (1, 15), answer, move || {
+        ringlog::cut(&mut lent.borrow_mut(), black_box(used), black_box(1))
+    });
+    assert!(*buffer.borrow() == left, "the bytes of a cut");
+    row.prepared(move || buffer.borrow_mut().copy_from_slice(&log))
 }
 
 fn value(log: Vec<u8>, root: [u8; 32]) -> Row {

@@ -22,7 +22,8 @@ use times::Times;
 
 const WARM: &str = "\
 Medians, library and plain Rust in turn in one process, both built for release. Buffers are warm: each
-was used before, and none is cleared between calls. The time is the processor's.";
+was used before, and none is cleared between calls, but that a cut's log is copied back before each cut.
+The time is the processor's.";
 
 const PAINTED: &str = "\
 Each call runs on a painted stack of its own (tests/c/stack_use.c). Cut, value and proof go the longest

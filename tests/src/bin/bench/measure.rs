@@ -5,8 +5,10 @@ use std::fmt::Debug;
 
 const ROUNDS: usize = 1_500;
 
-/// One of the two that are measured: a call, and the nanoseconds per call of each batch so far.
+/// One of the two that are measured: a call, what is done before each batch of it and is not measured,
+/// and the nanoseconds per call of each batch so far.
 struct Side {
+    prepare: Box<dyn FnMut()>,
     call: Box<dyn FnMut()>,
     times: Vec<f64>,
 }
@@ -14,6 +16,7 @@ struct Side {
 impl Side {
     fn new<A: Copy>(mut call: impl FnMut() -> A + 'static) -> Self {
         Side {
+            prepare: Box::new(|| ()),
             call: Box::new(move || {
                 black_box(call());
             }),
@@ -22,6 +25,7 @@ impl Side {
     }
 
     fn run(&mut self, calls: u32) {
+        (self.prepare)();
         let start = processor::nanoseconds();
         for _ in 0..calls {
             (self.call)();
@@ -75,6 +79,13 @@ impl Row {
             library: Side::new(library),
             plain: None,
         }
+    }
+
+    /// The row of a call of the library that undoes what it needs: this is done before each batch, and
+    /// is not measured.
+    pub fn prepared(mut self, prepare: impl FnMut() + 'static) -> Self {
+        self.library.prepare = Box::new(prepare);
+        self
     }
 
     /// Each of the two goes first in every other batch.
