@@ -40,6 +40,44 @@ pub fn parted_at(values: &[Vec<u8>], i: usize, random: &mut Random) -> Vec<Vec<u
     with_others(values, &places, random)
 }
 
+/// Two logs with a beginning in common: how many values each has, how many are in common, and where
+/// these end.
+pub struct Parted<'a> {
+    pub first: &'a [u8],
+    pub second: &'a [u8],
+    pub counts: (usize, usize),
+    pub common: usize,
+    pub common_end: usize,
+}
+
+impl Parted<'_> {
+    pub fn case(&self) -> String {
+        let (m1, m2) = self.counts;
+        format!("{m1} and {m2} values, {} in common", self.common)
+    }
+}
+
+/// Two such logs for each number of values in common up to `most`, and for each two numbers of values
+/// from there to `most`.
+pub fn each_parted(most: usize, random: &mut Random, mut act: impl FnMut(&Parted)) {
+    let list = values(most, random);
+    let log = Log::of(&list);
+    for common in 0..=most {
+        let other = Log::of(&parted_at(&list, common + 1, random));
+        for m1 in common..=most {
+            for m2 in common..=most {
+                act(&Parted {
+                    first: log.beginning(m1),
+                    second: other.beginning(m2),
+                    counts: (m1, m2),
+                    common,
+                    common_end: log.end(common),
+                });
+            }
+        }
+    }
+}
+
 /// Two logs of up to `most` values with a beginning in common.
 pub fn parted(most: usize, random: &mut Random) -> (Log, Log) {
     let longer = values(random.up_to(most), random);

@@ -4,7 +4,7 @@
 use ringlog_tests::bent::each_bent;
 use ringlog_tests::logs::{self, LONGEST_ENTRY, LONGEST_LOG};
 use ringlog_tests::model::Log;
-use ringlog_tests::pairs::{self, parted_at, values, with_others};
+use ringlog_tests::pairs::{self, each_parted, values, with_others};
 use ringlog_tests::random::Random;
 use ringlog_tests::{links, model, plain, refused};
 
@@ -118,18 +118,9 @@ fn assert_searches_agree(first: &[u8], second: &[u8], case: impl Fn() -> String)
 
 #[test]
 fn searches_of_whole_logs_agree() {
-    let mut random = Random::new(7);
-    let list = values(40, &mut random);
-    let log = Log::of(&list);
-    for common in 0..=40 {
-        let other = Log::of(&parted_at(&list, common + 1, &mut random));
-        for m1 in common..=40 {
-            for m2 in common..=40 {
-                let case = || format!("{m1} and {m2} values, {common} in common");
-                assert_searches_agree(log.beginning(m1), other.beginning(m2), case);
-            }
-        }
-    }
+    each_parted(40, &mut Random::new(7), |parted| {
+        assert_searches_agree(parted.first, parted.second, || parted.case());
+    });
 }
 
 #[test]

@@ -9,7 +9,7 @@ use ringlog_tests::memory::lend_beginnings_beside;
 use ringlog_tests::model::entry::shaped;
 use ringlog_tests::model::search::Side;
 use ringlog_tests::model::Log;
-use ringlog_tests::pairs::{self, parted_at, values, with_others};
+use ringlog_tests::pairs::{self, each_parted, values, with_others};
 use ringlog_tests::random::Random;
 use ringlog_tests::refused;
 use ringlog_tests::ringlog::Piece;
@@ -67,59 +67,43 @@ fn repaired<'a>(first: &'a [u8], second: &'a [u8], piece: Piece) -> (Vec<u8>, &'
 
 #[test]
 fn the_other_log_cut_to_the_common_count_and_then_the_piece_is_the_donor_byte_for_byte() {
-    let mut random = Random::new(1);
-    let list = values(40, &mut random);
-    let log = Log::of(&list);
-    for common in 0..=40 {
-        let other = Log::of(&parted_at(&list, common + 1, &mut random));
-        for m1 in common..=40 {
-            for m2 in common..=40 {
-                let case = || format!("{m1} and {m2} values, {common} in common");
-                let (first, second) = (log.beginning(m1), other.beginning(m2));
-                let piece = repair(first, second, case);
-                let (joined, donor) = repaired(first, second, piece);
-                assert!(joined == donor, "{}", case());
-                let expected = if m2 > m1 {
-                    part(Side::Second, other.end(common), second.len())
-                } else {
-                    part(Side::First, log.end(common), first.len())
-                };
-                assert_eq!(piece, expected, "{}", case());
-                if (m1 + m2) % 7 == 0 {
-                    let whole = (m1.max(m2), joined.len());
-                    assert_eq!(ringlog::audit(&joined), whole.into(), "{}", case());
-                }
-            }
+    each_parted(40, &mut Random::new(1), |parted| {
+        let (first, second, case) = (parted.first, parted.second, || parted.case());
+        let piece = repair(first, second, case);
+        let (joined, donor) = repaired(first, second, piece);
+        assert!(joined == donor, "{}", case());
+        let (m1, m2) = parted.counts;
+        let expected = if m2 > m1 {
+            part(Side::Second, parted.common_end, second.len())
+        } else {
+            part(Side::First, parted.common_end, first.len())
+        };
+        assert_eq!(piece, expected, "{}", case());
+        if (m1 + m2) % 7 == 0 {
+            let whole = (m1.max(m2), joined.len());
+            assert_eq!(ringlog::audit(&joined), whole.into(), "{}", case());
         }
-    }
+    });
 }
 
 /// The piece is written at the new end, which leaves 0xFF or no byte behind it.
 #[test]
 fn in_a_buffer_with_room_the_other_log_cut_and_then_the_piece_is_the_donor_and_0xff_behind_it() {
     let mut random = Random::new(16);
-    let list = values(20, &mut random);
-    let log = Log::of(&list);
-    for common in 0..=20 {
-        let parted = Log::of(&parted_at(&list, common + 1, &mut random));
-        for m1 in common..=20 {
-            for m2 in common..=20 {
-                let case = || format!("{m1} and {m2} values, {common} in common");
-                let (first, second) = (log.beginning(m1), parted.beginning(m2));
-                let piece = repair(first, second, case);
-                let [donor, other, bytes] = parts(first, second, piece);
-                for room in [0, 1, 99] {
-                    let len = donor.len().max(other.len()) + room;
-                    let mut buffer = [other, &random.bytes(len - other.len())].concat();
-                    let cut = ringlog::cut(&mut buffer, other.len(), common);
-                    assert_eq!(cut.number, 0, "{}", case());
-                    buffer[cut.value as usize..][..bytes.len()].copy_from_slice(bytes);
-                    let blank = vec![0xff; len - donor.len()];
-                    assert!(buffer == [donor, &blank].concat(), "{}", case());
-                }
-            }
+    each_parted(20, &mut Random::new(17), |parted| {
+        let (first, second, case) = (parted.first, parted.second, || parted.case());
+        let piece = repair(first, second, case);
+        let [donor, other, bytes] = parts(first, second, piece);
+        for room in [0, 1, 99] {
+            let len = donor.len().max(other.len()) + room;
+            let mut buffer = [other, &random.bytes(len - other.len())].concat();
+            let cut = ringlog::cut(&mut buffer, other.len(), parted.common);
+            assert_eq!(cut.number, 0, "{}", case());
+            buffer[cut.value as usize..][..bytes.len()].copy_from_slice(bytes);
+            let blank = vec![0xff; len - donor.len()];
+            assert!(buffer == [donor, &blank].concat(), "{}", case());
         }
-    }
+    });
 }
 
 #[test]

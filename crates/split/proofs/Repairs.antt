@@ -17,8 +17,8 @@ use Rattle.split.specs.Claims.{Heals}
 use Rattle.slate.proofs.Comparisons.{common-first, common-second, common-taken}
 use Rattle.entry.proofs.Claimed.{opening-counts}
 use Rattle.entry.proofs.FirstValues.{cut-log}
+use Rattle.ringlog.proofs.Blanked.{write-blank}
 use Rattle.ringlog.proofs.CutClaims.{cut-first}
-use Rattle.ringlog.proofs.Torn.{write-blank}
 use Rattle.split.proofs.AnyBytes.{reads-counted}
 use Rattle.split.proofs.LogSearch.{answer-sound}
 
