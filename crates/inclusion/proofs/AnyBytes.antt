@@ -9,7 +9,9 @@ use borrow.Author.Tests.{le-ltb, lt-ltb}
 use lib.ListN.{length}
 use Rattle.slate.specs.Bytes.{part}
 use Rattle.slate.specs.Digits.{maxHeight}
+use Rattle.slate.specs.Index.{isIndex}
 use Rattle.slate.specs.Moves.{hops}
+use Rattle.slate.specs.Tree.{slate}
 use Rattle.entry.specs.Read.{payloadAt, payloadLenAt}
 use Rattle.entry.specs.Refusal.{causeNumber}
 use Rattle.entry.specs.Shape.{openedLog}
@@ -20,16 +22,15 @@ use Rattle.entry.specs.declared.Opened.the-variants as opened
 use Rattle.ringlog.specs.Answer.{refused, written}
 use Rattle.inclusion.specs.Claims as claims
 use Rattle.inclusion.specs.Claims.{Included}
-use Rattle.inclusion.specs.Index.{isIndex}
 use Rattle.inclusion.specs.Prove.{proofOf, proofOpened, proofReached}
 use Rattle.inclusion.specs.Value.{noPart, partOf}
 use Rattle.slate.proofs.Cases.{by-bool, by-order}
+use Rattle.slate.proofs.Indexes.{index-range}
 use Rattle.slate.proofs.Lists.{part-length}
 use Rattle.entry.proofs.Claimed.{siblings-length}
 use Rattle.entry.proofs.Items.{payload-item}
 use Rattle.entry.proofs.Reached.{reached, reached-arrives}
 use Rattle.ringlog.proofs.Outcomes.{refused-stays}
-use Rattle.inclusion.proofs.Indexes.{index-range}
 use Rattle.inclusion.proofs.ValueCases.{Held, by-value}
 use Rattle.inclusion.proofs.ValueForms.{item-within}
 
@@ -37,7 +38,7 @@ use Rattle.inclusion.proofs.ValueForms.{item-within}
 
 -- the siblings on the path are the proof
 held-included : (b r : List ℕ) (i l : ℕ) (h : Held b r i l)
-    → Included (h .count) i (payloadAt b l) (siblings b (h .start) (h .count - 1) maxHeight (i - 1)) r
+    → Included slate (h .count) i (payloadAt b l) (siblings b (h .start) (h .count - 1) maxHeight (i - 1)) r
 unfolding payloadAt
 held-included b r i l h =
     let w = h .found in
@@ -57,7 +58,7 @@ value-bound b r i =
     by-value b r i
     (λ p.
     p .number ≡ 0
-    → (o : ℕ) × (n : ℕ) × (openedLog b ≡ opened.Log o n) × Included n i (partOf b p) (siblings b o (n - 1) maxHeight (i - 1)) r)
+    → (o : ℕ) × (n : ℕ) × (openedLog b ≡ opened.Log o n) × Included slate n i (partOf b p) (siblings b o (n - 1) maxHeight (i - 1)) r)
     (λ k f z. absurd (f z))
     (λ l h z. (h .start, h .count, h .there .opens, held-included b r i l h))
 

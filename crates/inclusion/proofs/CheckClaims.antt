@@ -4,15 +4,15 @@ use mathlib.Core.Path.{_∙_}
 use borrow.Author.Tests.{eqb-true, leb-true}
 use Rattle.inclusion.specs.Check.{proofHolds, proofTests}
 use Rattle.inclusion.specs.Claims as claims
+use Rattle.slate.proofs.Indexes.{index-range, to-index}
 use Rattle.slate.proofs.Lists.{same-refl, same-true}
 use Rattle.entry.proofs.Tests.{all-at}
 use Rattle.inclusion.proofs.CheckForms.{holds-last}
-use Rattle.inclusion.proofs.Indexes.{index-range, to-index}
 
 pub check-sound : claims.CheckSound
 unfolding proofHolds proofTests
-check-sound n i v proof r h =
-    let ts = proofTests n i v proof r in
+check-sound pre n i v proof r h =
+    let ts = proofTests pre n i v proof r in
     let range = index-range i n (all-at ts 0 h) in
     record {
       first = range .0;
@@ -25,6 +25,6 @@ check-sound n i v proof r h =
     }
 
 pub check-complete : claims.CheckComplete
-check-complete n i v proof r w =
-    holds-last n i v proof r (to-index i n (w .first) (w .last)) (w .few) (w .item) (w .whole) (w .digest)
+check-complete pre n i v proof r w =
+    holds-last pre n i v proof r (to-index i n (w .first) (w .last)) (w .few) (w .item) (w .whole) (w .digest)
     ∙ rw (w .folds) (same-refl r)

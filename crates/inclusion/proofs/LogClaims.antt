@@ -59,14 +59,14 @@ proof-of-log vs i out ok first high fits =
     rw e (ap counted size, ap (λ (n : ℕ). path slate vs i ++ drop n out) size)
 
 pub proof-accepted : claims.ProofAccepted
-proof-accepted vs i ok first high =
-    check-complete (length vs) i (getD vs (i - 1) []) (path slate vs i) (root slate vs)
+proof-accepted pre vs i ok first high =
+    check-complete pre (length vs) i (getD vs (i - 1) []) (path pre vs i) (root pre vs)
     (record {
       first = first;
       last = high;
       few = ok .few;
       item = ok .items (i - 1) (omega arith) .valid;
-      whole = inclusion-length slate vs i first high (ok .few);
-      digest = root-length slate vs;
-      folds = inclusion-complete slate vs i first high (ok .few);
+      whole = inclusion-length pre vs i first high (ok .few);
+      digest = root-length pre vs;
+      folds = inclusion-complete pre vs i first high (ok .few);
     })

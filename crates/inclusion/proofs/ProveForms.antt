@@ -7,6 +7,7 @@ use Prim.Native.Nat.{ℕ, _*_, _-_, _≤_, _<_}
 use native.Mathlib.Omega.{arith}
 use borrow.Author.Tests.{le-ltb, lt-ltb}
 use Rattle.slate.specs.Digits.{maxHeight}
+use Rattle.slate.specs.Index.{isIndex}
 use Rattle.slate.specs.Moves.{hops, hopsFrom}
 use Rattle.entry.specs.Refusal.{causeNumber}
 use Rattle.entry.specs.Shape.{openedLog}
@@ -16,13 +17,12 @@ use Rattle.entry.specs.Write.{writeAt}
 use Rattle.entry.specs.declared.Cause.{Cause}
 use Rattle.entry.specs.declared.Opened.the-variants as opened
 use Rattle.ringlog.specs.Answer.{counted, refused, written}
-use Rattle.inclusion.specs.Index.{isIndex}
 use Rattle.inclusion.specs.Prove.{proofOf, proofReached}
 use Rattle.slate.proofs.Formulas.{hops-formula}
+use Rattle.slate.proofs.Indexes.{to-index}
 use Rattle.entry.proofs.PathSiblings.{siblings-length}
 use Rattle.entry.proofs.Reached.{Indexed, Reached, reached-arrives}
 use Rattle.ringlog.proofs.Outcomes.{Answers}
-use Rattle.inclusion.proofs.Indexes.{to-index}
 
 module _ (b : List ℕ) (i room : ℕ) where
   pub no-log : openedLog b ≡ opened.Refused → proofOf b i room ≡ refused 6

@@ -10,7 +10,7 @@ use Rattle.slate.specs.Digits.{maxHeight}
 use Rattle.slate.specs.Length.{offset}
 use Rattle.slate.specs.Moves.{hops}
 use Rattle.slate.specs.Path.{fold, path}
-use Rattle.slate.specs.Tree.{root, slate}
+use Rattle.slate.specs.Tree.{Rule, root, slate}
 use Rattle.entry.specs.Kind.{isItem}
 use Rattle.entry.specs.Log.{Values, log}
 use Rattle.entry.specs.Read.{payloadAt, payloadLenAt}
@@ -28,21 +28,21 @@ use Rattle.inclusion.specs.declared.Part.{Part}
 
 -- ---- proof check
 
--- what a yes says, and nothing more is asked
-pub record Included (n i : ℕ) (v proof r : List ℕ) : Type 0 where
+-- what a yes says, and nothing more is asked, for any prefix rule
+pub record Included (pre : Rule) (n i : ℕ) (v proof r : List ℕ) : Type 0 where
   pub first : 1 ≤ i
   pub last : i ≤ n
   pub few : n ≤ 2 ^ maxHeight
   pub item : isItem v ≡ true
   pub whole : length proof ≡ 32 * hops n i
   pub digest : length r ≡ 32
-  pub folds : fold slate n i v proof ≡ r
+  pub folds : fold pre n i v proof ≡ r
 
 abbrev pub CheckSound : Type 0
-CheckSound = (n i : ℕ) (v proof r : List ℕ) → proofHolds n i v proof r ≡ true → Included n i v proof r
+CheckSound = (pre : Rule) (n i : ℕ) (v proof r : List ℕ) → proofHolds pre n i v proof r ≡ true → Included pre n i v proof r
 
 abbrev pub CheckComplete : Type 0
-CheckComplete = (n i : ℕ) (v proof r : List ℕ) → Included n i v proof r → proofHolds n i v proof r ≡ true
+CheckComplete = (pre : Rule) (n i : ℕ) (v proof r : List ℕ) → Included pre n i v proof r → proofHolds pre n i v proof r ≡ true
 
 -- ---- on a well-formed log, for 1 ≤ i ≤ n
 
@@ -60,11 +60,11 @@ ProofOfLog =
     → (answer 0 (proofOf (log vs) i (length out)) ≡ counted (32 * hops (length vs) i))
     × (after out 0 (proofOf (log vs) i (length out)) ≡ path slate vs i ++ drop (32 * hops (length vs) i) out)
 
--- and the checker accepts it with that value and root
+-- and by any rule the checker accepts the path of a value with that value and the root
 abbrev pub ProofAccepted : Type 0
 ProofAccepted =
-    (vs : List (List ℕ)) (i : ℕ) → Values vs → 1 ≤ i → i ≤ length vs
-    → proofHolds (length vs) i (getD vs (i - 1) []) (path slate vs i) (root slate vs) ≡ true
+    (pre : Rule) (vs : List (List ℕ)) (i : ℕ) → Values vs → 1 ≤ i → i ≤ length vs
+    → proofHolds pre (length vs) i (getD vs (i - 1) []) (path pre vs i) (root pre vs) ≡ true
 
 -- ---- on any bytes
 
@@ -74,7 +74,7 @@ abbrev pub ValueBound : Type 0
 ValueBound =
     (b r : List ℕ) (i : ℕ) → checkedValue b r i .number ≡ 0
     → (o : ℕ) × (n : ℕ) × (openedLog b ≡ opened.Log o n)
-    × Included n i (partOf b (checkedValue b r i)) (siblings b o (n - 1) maxHeight (i - 1)) r
+    × Included slate n i (partOf b (checkedValue b r i)) (siblings b o (n - 1) maxHeight (i - 1)) r
 
 -- where P holds, a checked value answers this number and an empty part
 abbrev pub noValue : ℕ → Type 0 → Reason Part

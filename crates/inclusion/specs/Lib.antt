@@ -1,5 +1,4 @@
 pub mod Check
 pub mod Claims
-pub mod Index
 pub mod Prove
 pub mod Value

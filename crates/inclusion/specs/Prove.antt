@@ -4,6 +4,7 @@ use Prim.Native.Nat.{ℕ, _*_, _-_}
 use lib.Dec.{ltb}
 use Rattle.sha256.specs.Pick.{pick}
 use Rattle.slate.specs.Digits.{maxHeight}
+use Rattle.slate.specs.Index.{isIndex}
 use Rattle.slate.specs.Moves.{hops}
 use Rattle.entry.specs.Refusal.{causeNumber, openedNumber}
 use Rattle.entry.specs.Shape.{openedLog}
@@ -12,7 +13,6 @@ use Rattle.entry.specs.Walk.{Descent, arrived, descend, stopped}
 use Rattle.entry.specs.declared.Opened.{Opened}
 use Rattle.entry.specs.declared.Opened.the-variants as opened
 use Rattle.ringlog.specs.Answer.{Outcome, refused, written}
-use Rattle.inclusion.specs.Index.{isIndex}
 
 -- the siblings on the path of value i of n, the one next to the leaf first; the last entry begins at o
 abbrev pub proofReached : List ℕ → ℕ → ℕ → ℕ → Descent → Outcome

@@ -5,11 +5,11 @@
 // Check.antt say what it answers and what each lent byte is afterwards; specs/Claims.antt says what
 // that is on a well-formed log, and what an answer is worth on any bytes.
 mod checking;
-mod index;
 mod proving;
 mod values;
 
 pub use checking::check_proof;
+pub use checking::proof_holds;
 pub use proving::proof;
 pub use values::value;
 pub use values::value_number;

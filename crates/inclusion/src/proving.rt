@@ -3,7 +3,6 @@ ghost use mathlib.Core.Path.{_≡_};
 ghost use lib.ListN.{length};
 ghost use Rattle.ringlog.specs.Answer.{after, answer, countOf};
 ghost use Rattle.inclusion.specs.Prove.{proofOf};
-use crate::index::is_index;
 use entry::Cause;
 use entry::Opened;
 use entry::Walk;
@@ -12,6 +11,7 @@ use entry::siblings::put_siblings;
 use entry::steps::descend;
 use ringlog::Counted;
 use slate::digits::MAX_HEIGHT;
+use slate::index::is_index;
 use slate::moves::hops;
 
 // Writes the proof of the value of this index to the start of the output, once every step to it

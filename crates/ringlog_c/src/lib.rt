@@ -6,6 +6,7 @@
 ghost use mathlib.Core.Path.{_≡_};
 ghost use lib.ListN.{length};
 ghost use Rattle.sha256.specs.Answer.{hashed};
+ghost use Rattle.slate.specs.Tree.{slate};
 ghost use Rattle.ringlog.specs.Answer.{after, answer, countOf};
 ghost use Rattle.ringlog.specs.Append.{appended};
 ghost use Rattle.ringlog.specs.Audit.{Longest, audited};
@@ -166,7 +167,7 @@ pub extern "C" fn ringlog_check_proof(
     proof: &[u8],
     root: &[u8],
 ) -> bool
-    ensures { λ r. ⌜ r ≡ proofHolds count index (now (item .entry)) (now (proof .entry)) (now (root .entry)) ⌝ }
+    ensures { λ r. ⌜ r ≡ proofHolds slate count index (now (item .entry)) (now (proof .entry)) (now (root .entry)) ⌝ }
 {
     inclusion::check_proof(count, index, item, proof, root)
 }

@@ -10,10 +10,14 @@ use lib.ListN.{length, getD, length-append, List·getD-append}
 use lib.Pow.{pow-mono, pow-pos}
 use lib.Seq.{getD-at}
 use Rattle.sha256.specs.Fips180.{sha256}
-use Rattle.slate.specs.Address.{HasNode, Node, highest, input, nodesBelow}
+use Rattle.slate.specs.Address.{HasNode, Node, Present, hashInput, highest, input, nodesBelow}
+use Rattle.slate.specs.Bytes.{Bytes}
 use Rattle.slate.specs.Claims as claims
 use Rattle.slate.specs.Digits.{base, digit, left, maxHeight, onesBelow}
-use Rattle.slate.specs.Tree.{Rule, nodeInput, slate, top}
+use Rattle.slate.specs.Rules.{ruleOf}
+use Rattle.slate.specs.Tree.{Rule, nodeInput, rfc6962, slate, top}
+use Rattle.slate.specs.declared.rule.Rule as code
+use Rattle.slate.specs.declared.rule.Rule.the-variants as rules
 use Rattle.slate.proofs.Bits.{base-le, left-pos, left-present, mod-step, onesBelow-mono, whole-base}
 use Rattle.slate.proofs.Cases.{by-digit, by-order}
 use Rattle.slate.proofs.Lists.{bytes-append, bytes-cons}
@@ -138,6 +142,16 @@ leaf-bytes vs i = (refl, refl)
 pub node-bytes : claims.NodeBytes
 node-bytes vs m i p at = let e = node-input slate vs m i p at in (e, ap sha256 e)
 
+pub rfc-leaf-bytes : claims.RfcLeafBytes
+unfolding input
+rfc-leaf-bytes vs i = (refl, refl)
+
+pub rfc-node-bytes : claims.RfcNodeBytes
+rfc-node-bytes vs m i p at = let e = node-input rfc6962 vs m i p at in (e, ap sha256 e)
+
+pub prefix-bytes : claims.PrefixBytes
+prefix-bytes = (refl, λ p. refl, refl, λ p. refl)
+
 pub top-digest : claims.TopDigest
 top-digest pre vs i h = top-highest pre vs (i - 1) h
 
@@ -233,14 +247,25 @@ listed-present m i k d low high lt =
     let r = listed-node (i - 1) maxHeight k d lt in
     rw (r .is) (record { low = low; high = high; node = r .set }, refl, refl)
 
--- ---- what is hashed is bytes: a height is one
+-- ---- what is hashed is bytes where the prefixes are
+
+prefixed-bytes : (pre : Rule) → ((h : ℕ) → h ≤ maxHeight → pre h < 256)
+    → (vs : List (List ℕ)) (m i h : ℕ) → m ≤ 2 ^ maxHeight → Present m i h → Bytes (getD vs (i - 1) []) → Bytes (hashInput pre vs i h)
+unfolding input
+prefixed-bytes pre byte vs m i zero small at b = bytes-cons (pre 0) (getD vs (i - 1) []) (byte 0 (omega arith)) b
+prefixed-bytes pre byte vs m i (suc p) small at b =
+    let l : List ℕ = top pre vs (left (i - 1) p) p in
+    let r : List ℕ = top pre vs (i - 1) p in
+    let low : p < maxHeight = set-below (i - 1) maxHeight p (omega (arith, at .low, at .high)) (at .node) in
+    bytes-cons (pre (suc p)) (l ++ r) (byte (suc p) (omega arith))
+    (bytes-append l r (top-bytes pre vs (left (i - 1) p) p) (top-bytes pre vs (i - 1) p))
+
+-- a height is a byte, and so are 0x00 and 0x01
+prefix-byte : (rule : code.Rule) (h : ℕ) → h ≤ maxHeight → ruleOf rule h < 256
+unfolding maxHeight
+prefix-byte rules.Slate h le = omega arith
+prefix-byte rules.Rfc6962 zero le = omega arith
+prefix-byte rules.Rfc6962 (suc p) le = omega arith
 
 pub input-bytes : claims.InputBytes
-unfolding input maxHeight
-input-bytes vs m i zero small at b = bytes-cons 0 (getD vs (i - 1) []) (omega arith) b
-input-bytes vs m i (suc p) small at b =
-    let l : List ℕ = top slate vs (left (i - 1) p) p in
-    let r : List ℕ = top slate vs (i - 1) p in
-    let low : p < maxHeight = set-below (i - 1) maxHeight p (omega (arith, at .low, at .high)) (at .node) in
-    bytes-cons (suc p) (l ++ r) (omega arith)
-    (bytes-append l r (top-bytes slate vs (left (i - 1) p) p) (top-bytes slate vs (i - 1) p))
+input-bytes rule = prefixed-bytes (ruleOf rule) (prefix-byte rule)

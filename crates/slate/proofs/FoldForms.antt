@@ -13,14 +13,14 @@ use Rattle.slate.specs.Bytes.{part}
 use Rattle.slate.specs.Digits.{base, digit, ifSet}
 use Rattle.slate.specs.Moves.{hopsFrom}
 use Rattle.slate.specs.Path.{foldFrom}
-use Rattle.slate.specs.Tree.{slate}
+use Rattle.slate.specs.Tree.{Rule}
 use Rattle.slate.proofs.Cases.{by-digit, by-order}
 use Rattle.slate.proofs.Descent.{moves-left, moves-none, moves-right}
 use Rattle.slate.proofs.WayUp.{on-left, on-right, onWay, way-left, way-none, way-right, way-root}
 
 -- up to height h the leaf at position t is folded: to own, with the siblings in front of `at`
-pub record Folded (m t : ℕ) (leaf proof : List ℕ) (h : ℕ) (own : List ℕ) (at : ℕ) : Type 0 where
-  pub digest : own ≡ foldFrom slate (onWay m t h) h t leaf proof
+pub record Folded (pre : Rule) (m t : ℕ) (leaf proof : List ℕ) (h : ℕ) (own : List ℕ) (at : ℕ) : Type 0 where
+  pub digest : own ≡ foldFrom pre (onWay m t h) h t leaf proof
   pub place : at ≡ 32 * hopsFrom (onWay m t h) h t
 
 -- the sibling at `at`, as a part of the proof
@@ -42,22 +42,22 @@ module _ (m t : ℕ) (le : t ≤ m) where
       le-ind (λ (q : ℕ). hopsFrom (onWay m t p) p t ≤ hopsFrom (onWay m t q) q t) (omega arith)
       (λ q k e. omega (arith, moves-up q (onWay m t (suc q)) refl)) h up
 
-  module _ (leaf proof : List ℕ) where
-    pub folded-leaf : Folded m t leaf proof 0 leaf 0
+  module _ (pre : Rule) (leaf proof : List ℕ) where
+    pub folded-leaf : Folded pre m t leaf proof 0 leaf 0
     unfolding foldFrom hopsFrom
     folded-leaf = record { digest = refl; place = refl }
 
-    pub folded-root : (h : ℕ) → m < 2 ^ h → (own : List ℕ) (at : ℕ) → Folded m t leaf proof h own at → own ≡ foldFrom slate m h t leaf proof
+    pub folded-root : (h : ℕ) → m < 2 ^ h → (own : List ℕ) (at : ℕ) → Folded pre m t leaf proof h own at → own ≡ foldFrom pre m h t leaf proof
     folded-root h lt own at f = rw (way-root m t le h lt) at (f .digest)
 
-    module _ (p h x : ℕ) (next : h ≡ suc p) (on : x ≡ onWay m t h) (own : List ℕ) (at : ℕ) (f : Folded m t leaf proof p own at) where
+    module _ (p h x : ℕ) (next : h ≡ suc p) (on : x ≡ onWay m t h) (own : List ℕ) (at : ℕ) (f : Folded pre m t leaf proof p own at) where
       here : x ≡ onWay m t (suc p)
       here = rw next at on
 
       moves-here : hopsFrom (onWay m t h) h t ≡ digit x p + hopsFrom (onWay m t p) p t
       moves-here = rw (← on, next) (moves-up p x here)
 
-      pub folded-none : digit x p ≡ 0 → Folded m t leaf proof h own at
+      pub folded-none : digit x p ≡ 0 → Folded pre m t leaf proof h own at
       unfolding foldFrom
       folded-none d = record {
         digest = f .digest ∙ rw (← on, way-none m t le p x here d, next, d);
@@ -70,8 +70,8 @@ module _ (m t : ℕ) (le : t ≤ m) where
         folded-room k n up lt room = omega (arith, f .place, moves-here, rw (way-root m t le k lt) at (moves-rise h k up))
 
         pub folded-node : (r : List ℕ)
-            → r ≡ ifSet (digit t p) (tagged h (siblingBytes proof at) own) (tagged h own (siblingBytes proof at))
-            → Folded m t leaf proof h r (at + 32)
+            → r ≡ ifSet (digit t p) (tagged (pre h) (siblingBytes proof at) own) (tagged (pre h) own (siblingBytes proof at))
+            → Folded pre m t leaf proof h r (at + 32)
         unfolding foldFrom part tagged
         folded-node r e = record {
           digest =

@@ -11,6 +11,7 @@ pub mod FoldForms
 pub mod Formulas
 pub mod HighestBit
 pub mod Inclusion
+pub mod Indexes
 pub mod LeafForms
 pub mod Leaves
 pub mod Lengths

@@ -14,7 +14,7 @@ use Rattle.slate.specs.Claims as claims
 use Rattle.slate.specs.Digits.{base, digit, left, maxHeight}
 use Rattle.slate.specs.Moves.{hopsFrom, leftsFrom}
 use Rattle.slate.specs.Path.{foldFrom, pathFrom}
-use Rattle.slate.specs.Tree.{Rule, slate, top}
+use Rattle.slate.specs.Tree.{Rule, top}
 use Rattle.slate.specs.Way.{Address, Way, atTop, digests, foldUp, fromLeft, fromRight}
 use Rattle.slate.proofs.Addresses.{left-highest, left-top, to-highest}
 use Rattle.slate.proofs.Bits.{base-zero, left-base, left-end, left-lt, left-pred, no-left, whole-base}
@@ -121,20 +121,20 @@ way-moves n i l s first last small way =
 
 -- ---- the fold
 
-module _ (x p t : ℕ) (d proof : List ℕ) where
-  fold-none : digit x p ≡ 0 → foldFrom slate x (suc p) t d proof ≡ foldFrom slate x p t d proof
+module _ (pre : Rule) (x p t : ℕ) (d proof : List ℕ) where
+  fold-none : digit x p ≡ 0 → foldFrom pre x (suc p) t d proof ≡ foldFrom pre x p t d proof
   unfolding foldFrom
   fold-none z = rw z
 
   fold-left : digit x p ≡ 1 → t < base x p
-      → foldFrom slate x (suc p) t d proof
-      ≡ sha256 (suc p ∷ (foldFrom slate (left x p) p t d proof ++ take 32 (drop (32 * hopsFrom (left x p) p t) proof)))
+      → foldFrom pre x (suc p) t d proof
+      ≡ sha256 (pre (suc p) ∷ (foldFrom pre (left x p) p t d proof ++ take 32 (drop (32 * hopsFrom (left x p) p t) proof)))
   unfolding foldFrom part
   fold-left s o = rw (s, lt-ltb t (base x p) o)
 
   fold-right : digit x p ≡ 1 → base x p ≤ t
-      → foldFrom slate x (suc p) t d proof
-      ≡ sha256 (suc p ∷ (take 32 (drop (32 * hopsFrom x p t) proof) ++ foldFrom slate x p t d proof))
+      → foldFrom pre x (suc p) t d proof
+      ≡ sha256 (pre (suc p) ∷ (take 32 (drop (32 * hopsFrom x p t) proof) ++ foldFrom pre x p t d proof))
   unfolding foldFrom part
   fold-right s o = rw (s, le-ltb t (base x p) o)
 
@@ -142,29 +142,29 @@ module _ (x p t : ℕ) (d proof : List ℕ) where
 behind : (k m : ℕ) (proof : List ℕ) → m ≡ suc k → drop 32 (drop (32 * k) proof) ≡ drop (32 * m) proof
 behind k m proof e = let r : 32 * k + 32 ≡ 32 * m = omega arith in drop-drop 32 (32 * k) proof ∙ ap (λ (q : ℕ). drop q proof) r
 
-module _ (n t : ℕ) (d proof : List ℕ) where
-  fold-highest : (x h : ℕ) → foldFrom slate x h t d proof ≡ foldFrom slate x (highest x h) t d proof
-  fold-highest x = to-highest x (λ (q : ℕ). foldFrom slate x q t d proof) (λ p z. fold-none x p t d proof z)
+module _ (pre : Rule) (n t : ℕ) (d proof : List ℕ) where
+  fold-highest : (x h : ℕ) → foldFrom pre x h t d proof ≡ foldFrom pre x (highest x h) t d proof
+  fold-highest x = to-highest x (λ (q : ℕ). foldFrom pre x q t d proof) (λ p z. fold-none pre x p t d proof z)
 
   way-fold : {j h l : ℕ} {s : List Address} (way : Way n j h l s) → base (j - 1) h ≤ t → t ≤ j - 1
-      → foldFrom slate (n - 1) maxHeight t d proof
-      ≡ foldUp way (foldFrom slate (j - 1) h t d proof) (drop (32 * hopsFrom (j - 1) h t) proof)
+      → foldFrom pre (n - 1) maxHeight t d proof
+      ≡ foldUp pre way (foldFrom pre (j - 1) h t d proof) (drop (32 * hopsFrom (j - 1) h t) proof)
   unfolding base left foldUp
   way-fold atTop low high = fold-highest (n - 1) maxHeight
   way-fold (fromLeft {i} {p} at up) low high =
       let a = above-left (i - 1) p t (at .node) low high in
-      rw (behind _ _ proof (moves-left (i - 1) p t (at .node) (a .2)), ← fold-left (i - 1) p t d proof (at .node) (a .2))
+      rw (behind _ _ proof (moves-left (i - 1) p t (at .node) (a .2)), ← fold-left pre (i - 1) p t d proof (at .node) (a .2))
       (way-fold up (a .0) (a .1))
   way-fold (fromRight {i} {p} at up) low high =
       let a = above-right (i - 1) p t (at .node) low in
       rw (← hops-highest (i - 1) t p, ← fold-highest (i - 1) p)
-      (rw (behind _ _ proof (moves-right (i - 1) p t (at .node) (a .1)), ← fold-right (i - 1) p t d proof (at .node) (a .1))
+      (rw (behind _ _ proof (moves-right (i - 1) p t (at .node) (a .1)), ← fold-right pre (i - 1) p t d proof (at .node) (a .1))
       (way-fold up (a .0) high))
 
 pub fold-steps : claims.FoldSteps
 unfolding foldFrom hopsFrom
-fold-steps n i l s way v proof =
-    way-fold n (i - 1) (sha256 (0x00 ∷ v)) proof way (omega (arith, base-zero (i - 1))) (omega arith)
+fold-steps pre n i l s way v proof =
+    way-fold pre n (i - 1) (sha256 (pre 0 ∷ v)) proof way (omega (arith, base-zero (i - 1))) (omega arith)
 
 -- ---- there is a way from each leaf
 

@@ -1,4 +1,5 @@
 -- What is claimed of the tree's definitions: each claim is a type, and proofs/ has its proof.
+use mathlib.Core.Bool.{true}
 use mathlib.Core.List.{List, [], _∷_, _++_}
 use mathlib.Core.Logic.{_⊎_}
 use mathlib.Core.Path.{_≡_}
@@ -12,11 +13,15 @@ use Rattle.slate.specs.Clash.{Clash, Same}
 use Rattle.slate.specs.Comparison.{compared, differAt, equal, firstShorter, secondShorter}
 use Rattle.slate.specs.Difference.{differingLeaf}
 use Rattle.slate.specs.Digits.{base, digit, maxHeight, onesBelow}
+use Rattle.slate.specs.Index.{isIndex}
 use Rattle.slate.specs.Length.{entryLen, offset}
 use Rattle.slate.specs.Moves.{hops, hopsFrom, lefts, leftsFrom, splitBit}
 use Rattle.slate.specs.Path.{fold, path}
-use Rattle.slate.specs.Tree.{Rule, leafInput, nodeInput, root, slate, top}
+use Rattle.slate.specs.Rules.{ruleOf}
+use Rattle.slate.specs.Tree.{Rule, leafInput, nodeInput, rfc6962, root, slate, top}
 use Rattle.slate.specs.Way.{Address, Way, digests, foldUp}
+use Rattle.slate.specs.declared.rule.Rule as code
+use Rattle.slate.specs.declared.rule.Rule.the-variants as rules
 
 -- a log has at most 4,096 values
 abbrev pub Limit : Type 0
@@ -34,6 +39,10 @@ abbrev pub Parts : Type 0
 Parts =
     ((a b c : List ℕ) → part (a ++ (b ++ c)) (length a) (length b) ≡ b)
     × ((b : List ℕ) (o n : ℕ) → length (part b o n) ≡ min n (length b - o))
+
+-- the test of an index: i is that of one of n values
+abbrev pub IndexRange : Type 0
+IndexRange = (i n : ℕ) → (1 ≤ i → i ≤ n → isIndex i n ≡ true) × (isIndex i n ≡ true → (1 ≤ i) × (i ≤ n))
 
 -- ---- entries: the length of one, and where it begins
 
@@ -132,6 +141,14 @@ NodeInput =
     → hashInput pre vs i (suc p)
     ≡ nodeInput pre (suc p) (digestOf pre vs (leftChild i p) p) (digestOf pre vs i (rightHeight i p))
 
+-- the two prefix rules of the code: before a leaf both have 0x00; before a node document 01's has the height, RFC 6962's 0x01
+abbrev pub PrefixBytes : Type 0
+PrefixBytes =
+    (ruleOf rules.Slate 0 ≡ 0x00)
+    × ((p : ℕ) → ruleOf rules.Slate (suc p) ≡ suc p)
+    × (ruleOf rules.Rfc6962 0 ≡ 0x00)
+    × ((p : ℕ) → ruleOf rules.Rfc6962 (suc p) ≡ 0x01)
+
 -- leaf digest: SHA-256 of 0x00 and the value item, kind included
 abbrev pub LeafBytes : Type 0
 LeafBytes =
@@ -145,11 +162,24 @@ NodeBytes =
     → (hashInput slate vs i (suc p) ≡ suc p ∷ (digestOf slate vs (leftChild i p) p ++ digestOf slate vs i (rightHeight i p)))
     × (digestOf slate vs i (suc p) ≡ sha256 (suc p ∷ (digestOf slate vs (leftChild i p) p ++ digestOf slate vs i (rightHeight i p))))
 
--- so all that is hashed is bytes where the values are
+-- the RFC's leaf hash: SHA-256 of 0x00 and the value item
+abbrev pub RfcLeafBytes : Type 0
+RfcLeafBytes =
+    (vs : List (List ℕ)) (i : ℕ)
+    → (hashInput rfc6962 vs i 0 ≡ 0x00 ∷ getD vs (i - 1) []) × (digestOf rfc6962 vs i 0 ≡ sha256 (0x00 ∷ getD vs (i - 1) []))
+
+-- its node hash: SHA-256 of 0x01, the left digest, the right digest
+abbrev pub RfcNodeBytes : Type 0
+RfcNodeBytes =
+    (vs : List (List ℕ)) (m i p : ℕ) → Present m i (suc p)
+    → (hashInput rfc6962 vs i (suc p) ≡ 0x01 ∷ (digestOf rfc6962 vs (leftChild i p) p ++ digestOf rfc6962 vs i (rightHeight i p)))
+    × (digestOf rfc6962 vs i (suc p) ≡ sha256 (0x01 ∷ (digestOf rfc6962 vs (leftChild i p) p ++ digestOf rfc6962 vs i (rightHeight i p))))
+
+-- so by both rules all that is hashed is bytes where the values are
 abbrev pub InputBytes : Type 0
 InputBytes =
-    (vs : List (List ℕ)) (m i h : ℕ) → m ≤ 2 ^ maxHeight → Present m i h → Bytes (getD vs (i - 1) [])
-    → Bytes (hashInput slate vs i h)
+    (rule : code.Rule) (vs : List (List ℕ)) (m i h : ℕ) → m ≤ 2 ^ maxHeight → Present m i h → Bytes (getD vs (i - 1) [])
+    → Bytes (hashInput (ruleOf rule) vs i h)
 
 -- the root of an empty log is 32 zero bytes
 abbrev pub EmptyRoot : Type 0
@@ -248,8 +278,8 @@ PathSiblings =
 -- any value folds with any proof along the way, from its leaf digest up
 abbrev pub FoldSteps : Type 0
 FoldSteps =
-    (n i l : ℕ) (s : List Address) (way : Way n i 0 l s) (v proof : List ℕ)
-    → fold slate n i v proof ≡ foldUp way (sha256 (0x00 ∷ v)) proof
+    (pre : Rule) (n i l : ℕ) (s : List Address) (way : Way n i 0 l s) (v proof : List ℕ)
+    → fold pre n i v proof ≡ foldUp pre way (sha256 (pre 0 ∷ v)) proof
 
 -- value i folds with its path to the root
 abbrev pub FoldPath : Type 0

@@ -6,8 +6,10 @@ pub mod Clash
 pub mod Comparison
 pub mod Difference
 pub mod Digits
+pub mod Index
 pub mod Length
 pub mod Moves
 pub mod Path
+pub mod Rules
 pub mod Tree
 pub mod Way

@@ -27,9 +27,9 @@ abbrev pub digests : Rule → List (List ℕ) → List Address → List ℕ
 digests pre vs [] = []
 digests pre vs (a ∷ s) = digestOf pre vs (a .index) (a .height) ++ digests pre vs s
 
--- a digest d at the beginning of the way, folded with a proof: each node hashes its height, the left digest and the right digest, of which
--- one is folded so far and the other is the next 32 bytes of the proof
-unfoldable pub foldUp : {n i h l : ℕ} {s : List Address} → Way n i h l s → List ℕ → List ℕ → List ℕ
-foldUp atTop d proof = d
-foldUp (fromLeft {p = p} at up) d proof = foldUp up (sha256 (suc p ∷ (d ++ take 32 proof))) (drop 32 proof)
-foldUp (fromRight {p = p} at up) d proof = foldUp up (sha256 (suc p ∷ (take 32 proof ++ d))) (drop 32 proof)
+-- a digest d at the beginning of the way, folded with a proof: each node hashes the prefix of its height, the left digest and the right
+-- digest, of which one is folded so far and the other is the next 32 bytes of the proof
+unfoldable pub foldUp : {n i h l : ℕ} {s : List Address} → Rule → Way n i h l s → List ℕ → List ℕ → List ℕ
+foldUp pre atTop d proof = d
+foldUp pre (fromLeft {p = p} at up) d proof = foldUp pre up (sha256 (pre (suc p) ∷ (d ++ take 32 proof))) (drop 32 proof)
+foldUp pre (fromRight {p = p} at up) d proof = foldUp pre up (sha256 (pre (suc p) ∷ (take 32 proof ++ d))) (drop 32 proof)

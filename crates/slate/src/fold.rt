@@ -7,11 +7,13 @@ ghost use Rattle.sha256.specs.Answer.{tagged};
 ghost use Rattle.slate.specs.Digits as digits;
 ghost use Rattle.slate.specs.Moves as moves;
 ghost use Rattle.slate.specs.Path.{foldFrom};
-ghost use Rattle.slate.specs.Tree.{slate};
+ghost use Rattle.slate.specs.Rules.{ruleOf};
 use crate::digits::MAX_HEIGHT;
 use crate::digits::base;
 use crate::digits::digit;
 use crate::order::smaller;
+use crate::rule::Rule;
+use crate::rule::node_tag;
 use sha256::tagged::hash_tagged;
 
 // The position at which the way from position `last` down to the leaf at position `target` stands at
@@ -26,12 +28,12 @@ fn way_position(last: u32, target: u32, h: u32) -> u32
 
 // The digest of the node of height p + 1 on that way from that of its child on the way, and the
 // sibling: digit p of the target tells which child the way goes to.
-fn over(p: u32, target: u32, child: [u8; 32], sibling: &[u8]) -> [u8; 32]
+fn over(rule: Rule, p: u32, target: u32, child: [u8; 32], sibling: &[u8]) -> [u8; 32]
     requires { ⌜ p < digits.maxHeight ⌝ }
     requires { ⌜ length (now sibling) ≡ 32 ⌝ }
-    ensures { λ r. ⌜ r ≡ digits.ifSet (digits.digit target p) (tagged (p + 1) (now (sibling .entry)) child) (tagged (p + 1) child (now (sibling .entry))) ⌝ }
+    ensures { λ r. ⌜ r ≡ digits.ifSet (digits.digit target p) (tagged (ruleOf rule (p + 1)) (now (sibling .entry)) child) (tagged (ruleOf rule (p + 1)) child (now (sibling .entry))) ⌝ }
 {
-    let tag = (p + 1) as u8;
+    let tag = node_tag(rule, p + 1);
     if digit(target, p) == 0 {
         return hash_tagged(tag, &child, sibling);
     }
@@ -40,10 +42,10 @@ fn over(p: u32, target: u32, child: [u8; 32], sibling: &[u8]) -> [u8; 32]
 
 // The fold of the leaf's digest as that of value i of n. Internal: 1 ≤ i ≤ n ≤ 4,096, and the proof
 // has the siblings.
-pub fn fold(n: u32, i: u32, leaf: [u8; 32], proof: &[u8]) -> [u8; 32]
+pub fn fold(rule: Rule, n: u32, i: u32, leaf: [u8; 32], proof: &[u8]) -> [u8; 32]
     requires { ⌜ (1 ≤ i) × (i ≤ n) × (n ≤ 2 ^ digits.maxHeight) ⌝ }
     requires { ⌜ 32 * moves.hops n i ≤ length (now proof) ⌝ }
-    ensures { λ r. ⌜ r ≡ foldFrom slate (n - 1) digits.maxHeight (i - 1) leaf (now (proof .entry)) ⌝ }
+    ensures { λ r. ⌜ r ≡ foldFrom (ruleOf rule) (n - 1) digits.maxHeight (i - 1) leaf (now (proof .entry)) ⌝ }
 {
     let last = n - 1;
     let target = i - 1;
@@ -55,7 +57,7 @@ pub fn fold(n: u32, i: u32, leaf: [u8; 32], proof: &[u8]) -> [u8; 32]
         if digit(x, p) == 0 {
             continue;
         }
-        let node = over(p, target, own, &proof[at..at + 32]);
+        let node = over(rule, p, target, own, &proof[at..at + 32]);
         own = node;
         at += 32;
     }

@@ -5,7 +5,9 @@
 // internal, for the crates above: some ask for what their callers have tested.
 pub mod digits;
 pub mod fold;
+pub mod index;
 pub mod leaf;
 pub mod length;
 pub mod moves;
 pub mod order;
+pub mod rule;

@@ -8,9 +8,9 @@ use borrow.Author.Tests.{not-false, not-true}
 use Rattle.slate.specs.Digits.{maxHeight}
 use Rattle.entry.specs.Shape.{openedLog}
 use Rattle.entry.specs.declared.Opened.the-variants as opened
+use Rattle.slate.proofs.Indexes.{index-range}
 use Rattle.entry.proofs.Reached.{Indexed, Reached, last-inside, reached-arrives, walk-reached, walk-stopped}
 use Rattle.ringlog.proofs.Outcomes.{outcome-refused}
-use Rattle.inclusion.proofs.Indexes.{index-range}
 use Rattle.inclusion.proofs.ProveForms.{no-index, no-log, no-room, proof-stopped, proof-written, siblings-room}
 use Rattle.inclusion.proofs.proving.proof.Statement.{statement}
 use Rattle.inclusion.proofs.proving.proof.Tie as tie

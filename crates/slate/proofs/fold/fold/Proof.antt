@@ -8,6 +8,7 @@ use borrow.Author.Needs.{needs}
 use lib.ListN.{length, length-take, length-drop}
 use Rattle.slate.specs.Digits.{digit, maxHeight}
 use Rattle.slate.specs.Moves.{hopsFrom}
+use Rattle.slate.specs.Rules.{ruleOf}
 use Rattle.slate.proofs.Cases.{digit-set}
 use Rattle.slate.proofs.FoldForms.{Folded, folded-leaf, folded-node, folded-none, folded-room, folded-root}
 use Rattle.slate.proofs.Formulas.{hops-formula}
@@ -16,10 +17,10 @@ use Rattle.slate.proofs.fold.fold.Statement.{statement}
 use Rattle.slate.proofs.fold.fold.Tie as tie
 
 abbrev Inv-loop : tie.InvT-loop
-Inv-loop n i proof last target own₀ at₀ p₀ own at p = (p ≤ maxHeight) × Folded last target own₀ proof p own at
+Inv-loop rule n i proof last target own₀ at₀ p₀ own at p = (p ≤ maxHeight) × Folded (ruleOf rule) last target own₀ proof p own at
 
 abbrev μ-loop : tie.MeasureT-loop
-μ-loop n i proof last target own₀ at₀ p₀ own at p = maxHeight - p
+μ-loop rule n i proof last target own₀ at₀ p₀ own at p = maxHeight - p
 
 -- the positions of the value and of the last one
 module _ (c : tie.Start Inv-loop μ-loop) where
@@ -30,7 +31,7 @@ module _ (c : tie.Start Inv-loop μ-loop) where
   last-lt = omega (arith, c .pre)
 
 loop-holds : tie.Need-loop-holds Inv-loop μ-loop
-loop-holds c = (omega arith, folded-leaf _ _ (target-le (c .before)) _ _)
+loop-holds c = (omega arith, folded-leaf _ _ (target-le (c .before)) _ _ _)
 
 way-position-requires : tie.Need-way-position-requires Inv-loop μ-loop
 unfolding maxHeight
@@ -48,7 +49,7 @@ loop-again c =
     let w = c .before .before in
     let l = w .before .before in (
       omega arith,
-      folded-none _ _ (target-le (l .before .before)) _ _ _ _ _ (add-one (l .loop .p)) (on-way w) _ _ (l .loop .inv .1) (sym (c .before .digit .ensures) ∙ c .if1 .taken),
+      folded-none _ _ (target-le (l .before .before)) _ _ _ _ _ _ (add-one (l .loop .p)) (on-way w) _ _ (l .loop .inv .1) (sym (c .before .digit .ensures) ∙ c .if1 .taken),
     )
 
 -- there is a node of height p + 1, and a sibling is left for it
@@ -65,7 +66,7 @@ room c =
     let s = l .before .before in
     let p = s .pre in
     let count = hops-formula _ _ (p .0 .0) (p .0 .1) (p .0 .2) in
-    folded-room _ _ (target-le s) _ _ _ _ _ (add-one (l .loop .p)) (on-way w) _ _ (l .loop .inv .1) (set c) maxHeight _ (omega arith) (last-lt s)
+    folded-room _ _ (target-le s) _ _ _ _ _ _ (add-one (l .loop .p)) (on-way w) _ _ (l .loop .inv .1) (set c) maxHeight _ (omega arith) (last-lt s)
     (rw count at (p .1))
 
 over-requires : tie.Need-over-requires Inv-loop μ-loop
@@ -79,7 +80,7 @@ loop-again-2 c =
     let w = e .before .before in
     let l = w .before .before in (
       omega arith,
-      folded-node _ _ (target-le (l .before .before)) _ _ _ _ _ (add-one (l .loop .p)) (on-way w) _ _ (l .loop .inv .1) (set e) _ (c .over .ensures),
+      folded-node _ _ (target-le (l .before .before)) _ _ _ _ _ _ (add-one (l .loop .p)) (on-way w) _ _ (l .loop .inv .1) (set e) _ (c .over .ensures),
     )
 
 returns : tie.Need-returns Inv-loop μ-loop
@@ -88,7 +89,7 @@ returns c =
     let l = c .before in
     let s = l .before .before in
     let all : l .loop .p ≡ maxHeight = omega (arith, l .loop .inv .0, c .loop-test .left) in
-    folded-root _ _ (target-le s) _ _ maxHeight (last-lt s) _ _ (rw all at (l .loop .inv .1))
+    folded-root _ _ (target-le s) _ _ _ maxHeight (last-lt s) _ _ (rw all at (l .loop .inv .1))
 
 pub fold-spec : {M : Type 1} → statement M
 unfolding maxHeight

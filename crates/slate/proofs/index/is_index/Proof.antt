@@ -1,9 +1,9 @@
 -- Index 0, and the other indexes.
 -- Assumes nothing.
 use mathlib.Core.Path.{sym}
-use Rattle.inclusion.proofs.Indexes.{index-none, index-some}
-use Rattle.inclusion.proofs.index.is_index.Statement.{statement}
-use Rattle.inclusion.proofs.index.is_index.Tie as tie
+use Rattle.slate.proofs.Indexes.{index-none, index-some}
+use Rattle.slate.proofs.index.is_index.Statement.{statement}
+use Rattle.slate.proofs.index.is_index.Tie as tie
 
 returns : tie.Need-returns
 returns c = sym (index-none _ _ (c .if1 .taken))
