@@ -7,7 +7,7 @@ use mathlib.Core.Path.{_≡_, refl, sym, _∙_}
 use Prim.Native.Nat.{ℕ, zero, suc, _*_, _-_, _^_, _≤_, _<_}
 use native.Mathlib.Omega.{arith}
 use borrow.Author.Tests.{le-leb, le-ltb, lt-leb, lt-ltb}
-use lib.Dec.{leb, ltb}
+use lib.Dec.{ltb}
 use lib.ListN.{length, getD, length-append}
 use Rattle.sha256.specs.Fips180.{sha256}
 use Rattle.slate.specs.Address.{HasNode}
@@ -15,19 +15,16 @@ use Rattle.slate.specs.Bytes.{part}
 use Rattle.slate.specs.Claims as claims
 use Rattle.slate.specs.Digits.{base, digit, left, maxHeight}
 use Rattle.slate.specs.Moves.{hops, hopsFrom}
+use Rattle.slate.specs.PartialTree.{cutDigests, cuts, outside, rebuilt, single}
 use Rattle.slate.specs.Path.{fold, foldFrom, pathFrom}
 use Rattle.slate.specs.Tree.{Rule, leafInput, root, top}
 use Rattle.slate.proofs.Bits.{base-under, base-zero, left-pred, whole-base}
 use Rattle.slate.proofs.Cases.{by-bool, by-digit}
 use Rattle.slate.proofs.Descent.{to-leaf}
 use Rattle.slate.proofs.Formulas.{hops-formula}
-use Rattle.slate.proofs.Outside.{not-outside, outside, outside-before, outside-behind, outside-false, outside-steady}
-use Rattle.slate.proofs.PartialTree.{Forged, Layout, cutDigests, cuts, cuts-one, digests-one, hashes-at, rebuilt, rebuilt-complete, rebuilt-one, rebuilt-sound}
+use Rattle.slate.proofs.Outside.{not-outside, outside-before, outside-behind, outside-false, outside-steady}
+use Rattle.slate.proofs.PartialTree.{Forged, cuts-one, digests-one, hashes-at, rebuilt-complete, rebuilt-one, rebuilt-sound}
 use Rattle.slate.proofs.Tops.{root-top, top-length}
-
--- what does not hold t is cut off, and the digests on the side of t come first
-abbrev pub single : ℕ → Layout
-single t = record { cut = outside t (suc t); rightFirst = λ x p. leb (base x p) t }
 
 -- ---- the path and the fold are of this layout
 
@@ -85,6 +82,13 @@ module _ (t : ℕ) where
       let at = hashes-at pre (single t) val (g .on) in
       let over = outside-false t (suc t) (g .position) (g .height) (at .1) in
       (at .0, at .2, omega arith, over .0)
+
+pub single-layout : claims.SinglePath
+single-layout pre t x h low high = (
+  single-count t x h low high,
+  λ vs. single-path t pre vs x h low high,
+  λ v proof. single-fold t pre v proof x h low high,
+)
 
 -- ---- length
 

@@ -1,19 +1,17 @@
 -- The subtrees outside a run of positions: none of their leaves is in it. In the path of one value those outside its own position are cut off.
 -- Assumes nothing.
-use mathlib.Core.Bool.{Bool, true, false}
+use mathlib.Core.Bool.{true, false}
+use mathlib.Core.Logic.{inl, inr, ⊎-elim}
 use mathlib.Core.Path.{_≡_}
 use Prim.Native.Nat.{ℕ, _≤_, _<_}
 use native.Mathlib.Omega.{arith}
 use borrow.Author.Tests.{le-leb, le-ltb, lt-leb, lt-ltb}
-use lib.Dec.{leb, ltb}
-use Rattle.sha256.specs.Pick.{pick}
+use lib.Dec.{ltb}
+use Rattle.slate.specs.Claims as claims
 use Rattle.slate.specs.Digits.{base}
+use Rattle.slate.specs.PartialTree.{outside}
 use Rattle.slate.proofs.Bits.{base-zero}
 use Rattle.slate.proofs.Cases.{by-bool, by-order, true-false}
-
--- no position under the highest node of height at most h at position x is from a up to, not including, e
-unfoldable pub outside : ℕ → ℕ → ℕ → ℕ → Bool
-outside a e x h = pick (ltb x a) true (leb e (base x h))
 
 module _ (a e x h : ℕ) where
   pub outside-before : x < a → outside a e x h ≡ true
@@ -39,3 +37,9 @@ outside-steady a e x h y t low high =
     by-bool (outside a e y 0)
     (λ q. q)
     (λ q. true-false t (not-outside a e x h (omega (arith, outside-false a e y 0 q)) (omega (arith, base-zero y, outside-false a e y 0 q))))
+
+pub outside-exactly : claims.OutsideExactly
+outside-exactly a e x h = (
+  λ t. by-order x a inl (λ o. by-order (base x h) e (λ q. true-false t (not-outside a e x h o q)) inr),
+  ⊎-elim (outside-before a e x h) (outside-behind a e x h),
+)

@@ -1,7 +1,7 @@
--- A proof over part of a tree: some subtrees, cut off, stand as digests, and of the rest the values are handed in. A layout says which
--- subtrees are cut off, and in which order their digests stand. The path of one value is the case that Inclusion.antt takes.
+-- A proof over part of a tree: its length, that it gives the digest of the tree, and what it is worth where that digest comes out. The path
+-- of one value is the case that Inclusion.antt takes.
 -- Assumes nothing.
-use mathlib.Core.Bool.{Bool, true, false}
+use mathlib.Core.Bool.{true, false}
 use mathlib.Core.List.{List, [], _++_, append-assoc}
 use mathlib.Core.Logic.{_⊎_, inl, inr}
 use mathlib.Core.Path.{_≡_, sym, ap}
@@ -10,75 +10,31 @@ use native.Mathlib.Omega.{arith}
 use lib.ListN.{drop, getD, length, take, length-append, length-drop}
 use lib.Seq.{drop-at, length-take-le, take-at}
 use Rattle.sha256.specs.Fips180.{sha256}
-use Rattle.sha256.specs.Pick.{pick}
 use Rattle.sha256.proofs.DigestBytes.{digest-length}
 use Rattle.slate.specs.Address.{HasNode, input}
-use Rattle.slate.specs.Digits.{base, digit, ifSet, left}
+use Rattle.slate.specs.Claims as claims
+use Rattle.slate.specs.Digits.{base, digit, left}
+use Rattle.slate.specs.PartialTree.{Layout, cutDigests, cuts, fromLeft, fromRight, rebuilt, rebuiltInput}
 use Rattle.slate.specs.Tree.{Rule, leafInput, nodeInput, top}
 use Rattle.slate.proofs.Bits.{base-le, base-zero, left-base, left-end, left-lt, left-pred, no-left}
 use Rattle.slate.proofs.Cases.{by-bool, by-digit, by-equal, by-order, true-false}
 use Rattle.slate.proofs.Lists.{append-inj}
 use Rattle.slate.proofs.Tops.{top-length}
 
--- which subtrees are cut off: cut x h speaks of the highest node of height at most h at position x; and at which nodes the digests
--- under the right child come first: rightFirst x p speaks of the node of height p + 1 at position x
-pub record Layout : Type 0 where
-  pub cut : ℕ → ℕ → Bool
-  pub rightFirst : ℕ → ℕ → Bool
-
 module _ (l : Layout) where
-  -- how many subtrees are cut off under the highest node of height at most h at position x
-  unfoldable pub cuts : ℕ → ℕ → ℕ
-  cuts x zero = pick (l .cut x 0) 1 0
-  cuts x (suc p) = pick (l .cut x (suc p)) 1 (ifSet (digit x p) (cuts (left x p) p + cuts x p) (cuts x p))
-
   -- what is cut off is cut off down to its leaves
   abbrev pub Steady : Type 0
   Steady = (x h y : ℕ) → l .cut x h ≡ true → base x h ≤ y → y ≤ x → l .cut y 0 ≡ true
-
-  -- where a proof from the digests of a node on is ds: from those under its left child on, and from those under its right child on
-  abbrev pub fromLeft : ℕ → ℕ → List ℕ → List ℕ
-  fromLeft x p ds = pick (l .rightFirst x p) (drop (32 * cuts x p) ds) ds
-
-  abbrev pub fromRight : ℕ → ℕ → List ℕ → List ℕ
-  fromRight x p ds = pick (l .rightFirst x p) ds (drop (32 * cuts (left x p) p) ds)
 
   by-node {ℓ} : {P : Type ℓ} (x p : ℕ) → (l .cut x (suc p) ≡ true → P) → (l .cut x (suc p) ≡ false → digit x p ≡ 0 → P)
       → (l .cut x (suc p) ≡ false → digit x p ≡ 1 → P) → P
   by-node x p f g k = by-bool (l .cut x (suc p)) f (λ t. by-digit x p (g t) (k t))
 
--- the digests of the subtrees cut off, end to end
-unfoldable pub cutDigests : Rule → Layout → List (List ℕ) → ℕ → ℕ → List ℕ
-cutDigests pre l vs x zero = pick (l .cut x 0) (top pre vs x 0) []
-cutDigests pre l vs x (suc p) =
-    pick (l .cut x (suc p))
-    (top pre vs x (suc p))
-    (ifSet (digit x p)
-    (pick (l .rightFirst x p)
-    (cutDigests pre l vs x p ++ cutDigests pre l vs (left x p) p)
-    (cutDigests pre l vs (left x p) p ++ cutDigests pre l vs x p))
-    (cutDigests pre l vs x p))
-
 module _ (pre : Rule) (l : Layout) (val : ℕ → List ℕ) where
-  -- the digest of the highest node of height at most h at position x, made of the values val, by position, and of a proof ds from
-  -- its digests on
-  unfoldable pub rebuilt : ℕ → ℕ → List ℕ → List ℕ
-  rebuilt x zero ds = pick (l .cut x 0) (take 32 ds) (sha256 (leafInput pre (val x)))
-  rebuilt x (suc p) ds =
-      pick (l .cut x (suc p))
-      (take 32 ds)
-      (ifSet (digit x p)
-      (sha256 (nodeInput pre (suc p) (rebuilt (left x p) p (fromLeft l x p ds)) (rebuilt x p (fromRight l x p ds))))
-      (rebuilt x p ds))
-
-  -- what is hashed for the node of height p + 1 at position x, where it is not cut off
-  abbrev pub rebuiltInput : ℕ → ℕ → List ℕ → List ℕ
-  rebuiltInput x p ds = nodeInput pre (suc p) (rebuilt (left x p) p (fromLeft l x p ds)) (rebuilt x p (fromRight l x p ds))
-
   -- Hashes x h ds y q i: to make rebuilt x h ds, the input i is hashed at the address of position y and height q
   pub data Hashes : ℕ → ℕ → List ℕ → ℕ → ℕ → List ℕ → Type 0 where
     leaf : {x : ℕ} {ds : List ℕ} → l .cut x 0 ≡ false → Hashes x 0 ds x 0 (leafInput pre (val x))
-    node : {x p : ℕ} {ds : List ℕ} → l .cut x (suc p) ≡ false → digit x p ≡ 1 → Hashes x (suc p) ds x (suc p) (rebuiltInput x p ds)
+    node : {x p : ℕ} {ds : List ℕ} → l .cut x (suc p) ≡ false → digit x p ≡ 1 → Hashes x (suc p) ds x (suc p) (rebuiltInput pre l val x p ds)
     lower : {x p y q : ℕ} {ds i : List ℕ} → l .cut x (suc p) ≡ false → digit x p ≡ 0 → Hashes x p ds y q i → Hashes x (suc p) ds y q i
     inLeft : {x p y q : ℕ} {ds i : List ℕ} → l .cut x (suc p) ≡ false → digit x p ≡ 1
         → Hashes (left x p) p (fromLeft l x p ds) y q i → Hashes x (suc p) ds y q i
@@ -124,9 +80,24 @@ unfolding rebuilt
 rebuilt-one pre l val x zero ds t = rw t
 rebuilt-one pre l val x (suc p) ds t = rw t
 
+pub cut-off : claims.CutOff
+cut-off pre l x h t =
+    (cuts-one l x h t, λ vs. digests-one pre l vs x h t, λ val ds. rebuilt-one pre l val x h ds t)
+
+-- ---- the order of the digests at a node that is not cut off
+
+pub digests-order : claims.CutDigestsOrder
+unfolding cutDigests
+digests-order pre l vs x p t d = (λ o. rw (t, d, o), λ o. rw (t, d, o))
+
+pub rebuilt-order : claims.RebuiltOrder
+unfolding rebuilt
+rebuilt-order pre l val x p a b t d =
+    (λ o n. rw (t, d, o, drop-at a b _ n), λ o n. rw (t, d, o, drop-at a b _ n))
+
 -- ---- length and completeness
 
-pub digests-length : (pre : Rule) (l : Layout) (vs : List (List ℕ)) (x h : ℕ) → length (cutDigests pre l vs x h) ≡ 32 * cuts l x h
+pub digests-length : claims.CutDigestsLength
 unfolding cuts cutDigests
 digests-length pre l vs x zero = by-bool (l .cut x 0) (λ t. rw t (top-length pre vs x 0)) (λ t. rw t)
 digests-length pre l vs x (suc p) =
@@ -145,26 +116,30 @@ module _ (pre : Rule) (l : Layout) (vs : List (List ℕ)) (val : ℕ → List �
   genuine-right : (x p : ℕ) → digit x p ≡ 1 → Genuine l val vs x (suc p) → Genuine l val vs x p
   genuine-right x p d g y a b = g y (omega (arith, left-end x p d)) b
 
-  -- a proof that begins with the digests of the tree, with its values where it is not cut off, gives its digest
-  pub rebuilt-complete : (x h : ℕ) (r : List ℕ) → Genuine l val vs x h
+  -- the digests of the tree, with its values, give its digest
+  rebuilds : (x h : ℕ) (r : List ℕ) → Genuine l val vs x h
       → rebuilt pre l val x h (cutDigests pre l vs x h ++ r) ≡ top pre vs x h
   unfolding rebuilt cutDigests top
-  rebuilt-complete x zero r g =
+  rebuilds x zero r g =
       by-bool (l .cut x 0)
       (λ t. rw t (take-at (top pre vs x 0) r 32 (top-length pre vs x 0)))
       (λ t. rw t (ap (λ (v : List ℕ). sha256 (leafInput pre v)) (g x (base-le x 0) (omega arith) t)))
-  rebuilt-complete x (suc p) r g =
+  rebuilds x (suc p) r g =
       by-node l x p
       (λ t. rw t (take-at (top pre vs x (suc p)) r 32 (top-length pre vs x (suc p))))
-      (λ t d. rw (t, d) (rebuilt-complete x p r (λ y a b. g y (omega (arith, no-left x p d)) b)))
+      (λ t d. rw (t, d) (rebuilds x p r (λ y a b. g y (omega (arith, no-left x p d)) b)))
       (λ t d. by-bool (l .rightFirst x p)
       (λ o. rw (t, d, o, append-assoc, drop-at _ (cutDigests pre l vs (left x p) p ++ r) _ (digests-length pre l vs x p))
-      (rw (rebuilt-complete (left x p) p r (genuine-left x p d g), rebuilt-complete x p (cutDigests pre l vs (left x p) p ++ r) (genuine-right x p d g))))
+      (rw (rebuilds (left x p) p r (genuine-left x p d g), rebuilds x p (cutDigests pre l vs (left x p) p ++ r) (genuine-right x p d g))))
       (λ o. rw (t, d, o, append-assoc, drop-at _ (cutDigests pre l vs x p ++ r) _ (digests-length pre l vs (left x p) p))
-      (rw (rebuilt-complete (left x p) p (cutDigests pre l vs x p ++ r) (genuine-left x p d g), rebuilt-complete x p r (genuine-right x p d g)))))
+      (rw (rebuilds (left x p) p (cutDigests pre l vs x p ++ r) (genuine-left x p d g), rebuilds x p r (genuine-right x p d g)))))
 
-  -- ---- soundness
+pub rebuilt-complete : claims.RebuiltComplete
+rebuilt-complete = rebuilds
 
+-- ---- soundness
+
+module _ (pre : Rule) (l : Layout) (vs : List (List ℕ)) (val : ℕ → List ℕ) where
   rebuilt-length : (x h : ℕ) (ds : List ℕ) → 32 * cuts l x h ≤ length ds → length (rebuilt pre l val x h ds) ≡ 32
   unfolding rebuilt cuts
   rebuilt-length x zero ds f =

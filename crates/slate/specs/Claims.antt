@@ -1,22 +1,23 @@
 -- What is claimed of the tree's definitions: each claim is a type, and proofs/ has its proof.
-use mathlib.Core.Bool.{true}
+use mathlib.Core.Bool.{true, false}
 use mathlib.Core.List.{List, [], _∷_, _++_}
 use mathlib.Core.Logic.{_⊎_}
 use mathlib.Core.Path.{_≡_}
 use Prim.Native.Nat.{ℕ, suc, _+_, _*_, _-_, _/_, _%_, _^_, _≤_, _<_, min}
 use lib.Count.{ones}
-use lib.ListN.{length, getD, replicate}
+use lib.ListN.{length, getD, replicate, take}
 use Rattle.sha256.specs.Fips180.{sha256}
 use Rattle.slate.specs.Address.{HasNode, Node, Present, digestOf, firstLeaf, hashInput, highest, leavesFrom, leftChild, nodes, rightHeight}
 use Rattle.slate.specs.Bytes.{Bytes, part}
 use Rattle.slate.specs.Clash.{Clash, Same}
 use Rattle.slate.specs.Comparison.{compared, differAt, equal, firstShorter, secondShorter}
 use Rattle.slate.specs.Difference.{differingLeaf}
-use Rattle.slate.specs.Digits.{base, digit, maxHeight, onesBelow}
+use Rattle.slate.specs.Digits.{base, digit, left, maxHeight, onesBelow}
 use Rattle.slate.specs.Index.{isIndex}
 use Rattle.slate.specs.Length.{entryLen, offset}
 use Rattle.slate.specs.Moves.{hops, hopsFrom, lefts, leftsFrom, splitBit}
-use Rattle.slate.specs.Path.{fold, path}
+use Rattle.slate.specs.PartialTree.{Layout, cutDigests, cuts, outside, rebuilt, single}
+use Rattle.slate.specs.Path.{fold, foldFrom, path, pathFrom}
 use Rattle.slate.specs.Rules.{ruleOf}
 use Rattle.slate.specs.Tree.{Rule, leafInput, nodeInput, rfc6962, root, slate, top}
 use Rattle.slate.specs.Way.{Address, Way, digests, foldUp}
@@ -286,6 +287,60 @@ abbrev pub FoldPath : Type 0
 FoldPath =
     (pre : Rule) (vs : List (List ℕ)) (i : ℕ) → 1 ≤ i → i ≤ length vs → length vs ≤ 2 ^ maxHeight
     → fold pre (length vs) i (getD vs (i - 1) []) (path pre vs i) ≡ root pre vs
+
+-- ---- a proof over part of a tree
+
+-- a digest of 32 bytes for each subtree cut off
+abbrev pub CutDigestsLength : Type 0
+CutDigestsLength =
+    (pre : Rule) (l : Layout) (vs : List (List ℕ)) (x h : ℕ) → length (cutDigests pre l vs x h) ≡ 32 * cuts l x h
+
+-- a subtree cut off is one digest, its own, and in a proof the next 32 bytes stand for it
+abbrev pub CutOff : Type 0
+CutOff =
+    (pre : Rule) (l : Layout) (x h : ℕ) → l .cut x h ≡ true
+    → (cuts l x h ≡ 1)
+    × ((vs : List (List ℕ)) → cutDigests pre l vs x h ≡ top pre vs x h)
+    × ((val : ℕ → List ℕ) (ds : List ℕ) → rebuilt pre l val x h ds ≡ take 32 ds)
+
+-- of a node that is not cut off the digests stand in the order of the layout
+abbrev pub CutDigestsOrder : Type 0
+CutDigestsOrder =
+    (pre : Rule) (l : Layout) (vs : List (List ℕ)) (x p : ℕ) → l .cut x (suc p) ≡ false → digit x p ≡ 1
+    → (l .rightFirst x p ≡ true → cutDigests pre l vs x (suc p) ≡ cutDigests pre l vs x p ++ cutDigests pre l vs (left x p) p)
+    × (l .rightFirst x p ≡ false → cutDigests pre l vs x (suc p) ≡ cutDigests pre l vs (left x p) p ++ cutDigests pre l vs x p)
+
+-- and in that order any bytes are taken for them
+abbrev pub RebuiltOrder : Type 0
+RebuiltOrder =
+    (pre : Rule) (l : Layout) (val : ℕ → List ℕ) (x p : ℕ) (a b : List ℕ) → l .cut x (suc p) ≡ false → digit x p ≡ 1
+    → (l .rightFirst x p ≡ true → length a ≡ 32 * cuts l x p
+    → rebuilt pre l val x (suc p) (a ++ b)
+    ≡ sha256 (nodeInput pre (suc p) (rebuilt pre l val (left x p) p b) (rebuilt pre l val x p (a ++ b))))
+    × (l .rightFirst x p ≡ false → length a ≡ 32 * cuts l (left x p) p
+    → rebuilt pre l val x (suc p) (a ++ b)
+    ≡ sha256 (nodeInput pre (suc p) (rebuilt pre l val (left x p) p (a ++ b)) (rebuilt pre l val x p b)))
+
+-- a proof that begins with the digests of the tree, with its values where it is not cut off, gives its digest
+abbrev pub RebuiltComplete : Type 0
+RebuiltComplete =
+    (pre : Rule) (l : Layout) (vs : List (List ℕ)) (val : ℕ → List ℕ) (x h : ℕ) (r : List ℕ)
+    → ((y : ℕ) → base x h ≤ y → y ≤ x → l .cut y 0 ≡ false → val y ≡ getD vs y [])
+    → rebuilt pre l val x h (cutDigests pre l vs x h ++ r) ≡ top pre vs x h
+
+-- the path to a leaf and the fold with any proof are those of the layout `single`
+abbrev pub SinglePath : Type 0
+SinglePath =
+    (pre : Rule) (t x h : ℕ) → base x h ≤ t → t ≤ x
+    → (cuts (single t) x h ≡ hopsFrom x h t)
+    × ((vs : List (List ℕ)) → cutDigests pre (single t) vs x h ≡ pathFrom pre vs x h t)
+    × ((v proof : List ℕ) → rebuilt pre (single t) (λ y. v) x h proof ≡ foldFrom pre x h t (sha256 (leafInput pre v)) proof)
+
+-- what lies outside a run of positions from a up to, not including, e: a subtree that ends before a, or begins at e or behind it
+abbrev pub OutsideExactly : Type 0
+OutsideExactly =
+    (a e x h : ℕ)
+    → (outside a e x h ≡ true → (x < a) ⊎ (e ≤ base x h)) × ((x < a) ⊎ (e ≤ base x h) → outside a e x h ≡ true)
 
 -- ---- the comparison names the first place of difference, or the verdict by the two lengths
 

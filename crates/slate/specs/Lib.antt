@@ -9,6 +9,7 @@ pub mod Digits
 pub mod Index
 pub mod Length
 pub mod Moves
+pub mod PartialTree
 pub mod Path
 pub mod Rules
 pub mod Tree
