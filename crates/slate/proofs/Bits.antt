@@ -47,6 +47,10 @@ pub base-same : (x y p : ℕ) → base x p ≤ y → y < base x p + 2 ^ p → ba
 unfolding base
 base-same x y p low high = ap (λ (q : ℕ). q * 2 ^ p) (in-block (x / 2 ^ p) y p low high)
 
+-- and so have those from the start of x's block up to x
+pub block-same : (x p t : ℕ) → base x p ≤ t → t ≤ x → base t p ≡ base x p
+block-same x p t low high = base-same x t p low (omega (arith, base-gt x p))
+
 base-twice : (x p : ℕ) → base x (suc p) ≡ x / 2 ^ p / 2 * 2 * 2 ^ p
 unfolding base
 base-twice x p = ap (λ (q : ℕ). q * 2 ^ suc p) (half x p) ∙ twice (x / 2 ^ p / 2) p
@@ -102,6 +106,24 @@ left-present x p d =
 -- left of the middle, t lies under the left child
 pub base-under : (x p t : ℕ) → digit x p ≡ 1 → base x (suc p) ≤ t → t < base x p → (base (left x p) p ≤ t) × (t ≤ left x p)
 base-under x p t d low high = (omega (arith, left-base x p d), omega (arith, left-pred x p d))
+
+-- digit p of a leaf t under the node of height p + 1 at position x is set exactly right of the middle; there is no middle where digit p of x
+-- is not set
+pub under-none : (x p t : ℕ) → digit x p ≡ 0 → base x (suc p) ≤ t → t ≤ x → digit t p ≡ 0
+under-none x p t d low high =
+    by-digit t p (λ z. z)
+    (λ s. absurd (omega (arith, left-end t p s, base-le t p, no-left x p d, block-same x (suc p) t low high, base-gt x p, pow-pos p)))
+
+pub under-left : (x p t : ℕ) → digit x p ≡ 1 → base x (suc p) ≤ t → t < base x p → digit t p ≡ 0
+under-left x p t d low high =
+    by-digit t p (λ z. z)
+    (λ s. absurd (omega (arith, left-end t p s, base-le t p, base-le x p, left-end x p d, block-same x (suc p) t low (omega (arith, base-le x p)))))
+
+pub under-right : (x p t : ℕ) → digit x p ≡ 1 → base x p ≤ t → t ≤ x → digit t p ≡ 1
+under-right x p t d low high =
+    by-digit t p
+    (λ z. absurd (omega (arith, no-left t p z, left-end x p d, pow-pos p, block-same x p t low high, block-same x (suc p) t (omega (arith, left-end x p d)) high)))
+    (λ s. s)
 
 -- ---- the number of ones
 

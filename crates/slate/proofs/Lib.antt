@@ -9,6 +9,7 @@ pub mod Descent
 pub mod Differences
 pub mod FoldForms
 pub mod Formulas
+pub mod HashedInputs
 pub mod HighestBit
 pub mod Inclusion
 pub mod Indexes

@@ -13,6 +13,7 @@ use Rattle.slate.specs.Clash.{Clash, Same}
 use Rattle.slate.specs.Comparison.{compared, differAt, equal, firstShorter, secondShorter}
 use Rattle.slate.specs.Difference.{differingLeaf}
 use Rattle.slate.specs.Digits.{base, digit, left, maxHeight, onesBelow}
+use Rattle.slate.specs.Hashed.{ClashAmong, Hashed, In}
 use Rattle.slate.specs.Index.{isIndex}
 use Rattle.slate.specs.Length.{entryLen, offset}
 use Rattle.slate.specs.Moves.{hops, hopsFrom, lefts, leftsFrom, splitBit}
@@ -210,6 +211,22 @@ ClashWhen =
     × (Clash pre vs ws
     → (i h : ℕ) × Present (length vs) i h × Present (length ws) i h × (hashInput pre vs i h ≡ hashInput pre ws i h → ⊥)
     × (sha256 (hashInput pre vs i h) ≡ sha256 (hashInput pre ws i h)))
+
+-- one of a list of inputs hashed is its first, or one of the rest
+abbrev pub InWhen : Type 0
+InWhen =
+    ((a : Hashed) → In a [] → ⊥)
+    × ((a b : Hashed) (hs : List Hashed) → (a ≡ b → In a (b ∷ hs)) × (In a hs → In a (b ∷ hs)) × (In a (b ∷ hs) → (a ≡ b) ⊎ In a hs))
+
+-- a clash among them is one whose address is present in the tree, whose input is not the tree's there, and whose digest is
+abbrev pub ClashAmongWhen : Type 0
+ClashAmongWhen =
+    (pre : Rule) (vs : List (List ℕ)) (hs : List Hashed)
+    → ((i h : ℕ) (a : List ℕ) → In (record { index = i; height = h; input = a }) hs → Present (length vs) i h
+    → (hashInput pre vs i h ≡ a → ⊥) → sha256 (hashInput pre vs i h) ≡ sha256 a → ClashAmong pre vs hs)
+    × (ClashAmong pre vs hs
+    → (i h : ℕ) × (a : List ℕ) × In (record { index = i; height = h; input = a }) hs × Present (length vs) i h
+    × (hashInput pre vs i h ≡ a → ⊥) × (sha256 (hashInput pre vs i h) ≡ sha256 a))
 
 -- a top depends on the values below it alone
 abbrev pub EqualValues : Type 0

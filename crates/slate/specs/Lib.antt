@@ -6,6 +6,7 @@ pub mod Clash
 pub mod Comparison
 pub mod Difference
 pub mod Digits
+pub mod Hashed
 pub mod Index
 pub mod Length
 pub mod Moves
