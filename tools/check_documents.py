@@ -18,7 +18,8 @@ TOP = Path(__file__).resolve().parent.parent
 CRATES = TOP / "crates"
 PROGRAMS = {"bench_sheet", "sha256_vectors", "ringaudit"}
 # The modules of what users call. What else is public there is for the crates above.
-USERS_MODULES = ["sha256/src/lib.rt", "ringlog/src/*.rt", "inclusion/src/*.rt", "split/src/*.rt", "ringlog_c/src/lib.rt"]
+USERS_MODULES = ["sha256/src/lib.rt", "ringlog/src/*.rt", "inclusion/src/*.rt", "split/src/*.rt", "rfc6962/src/*.rt",
+                 "ringlog_c/src/lib.rt"]
 problems = []
 
 
