@@ -10,7 +10,7 @@ use Rattle.split.specs.Answer.{Split}
 use Rattle.split.specs.declared.Piece.{Piece}
 use Rattle.ringlog_c.specs.Wire.{countWire, digestWire, extentWire, partWire, pieceWire, rootWire, splitWire}
 
--- of append, cut and proof
+-- of append, cut and proof, and of the path and the consistency proof of the RFC 6962 edition
 abbrev pub CountFields : Type 0
 CountFields = (a : Count) → (countWire a .number ≡ a .number) × (countWire a .value ≡ a .value)
 
@@ -22,7 +22,7 @@ ExtentFields = (a : Audited) → (extentWire a .entries ≡ a .entries) × (exte
 abbrev pub DigestFields : Type 0
 DigestFields = (a : Hashed) → (digestWire a .number ≡ a .number) × (digestWire a .digest ≡ a .digest)
 
--- of root
+-- of both editions' root
 abbrev pub RootFields : Type 0
 RootFields = (a : RootAnswer) → (rootWire a .number ≡ a .number) × (rootWire a .digest ≡ a .digest)
 

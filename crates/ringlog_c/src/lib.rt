@@ -1,12 +1,12 @@
-// The C interface, libringlog_c.a: every public call as a function of C. include/ringlog.h
-// documents it for its users.
+// The C interface, libringlog_c.a: the calls for users as functions of C. include/ringlog.h documents
+// it for them.
 //
 // A call returns a struct by value, so a refused call writes nothing that it was lent.
 // specs/Wire.antt says what each struct holds.
 ghost use mathlib.Core.Path.{_≡_};
 ghost use lib.ListN.{length};
 ghost use Rattle.sha256.specs.Answer.{hashed};
-ghost use Rattle.slate.specs.Tree.{slate};
+ghost use Rattle.slate.specs.Tree.{rfc6962, slate};
 ghost use Rattle.ringlog.specs.Answer.{after, answer, countOf};
 ghost use Rattle.ringlog.specs.Append.{appended};
 ghost use Rattle.ringlog.specs.Audit.{Longest, audited};
@@ -18,8 +18,12 @@ ghost use Rattle.inclusion.specs.Value.{checkedValue};
 ghost use Rattle.split.specs.Answer.{answerOf, splitOf};
 ghost use Rattle.split.specs.Repair.{placeOf};
 ghost use Rattle.split.specs.Search.{searched};
+ghost use Rattle.rfc6962.specs.Consistency.{consistencyHolds};
+ghost use Rattle.rfc6962.specs.Prove.{consistencyOf, pathOf};
+ghost use Rattle.rfc6962.specs.Root as rfc;
 ghost use Rattle.ringlog_c.specs.Wire.{countWire, digestWire, extentWire, partWire, pieceWire, rootWire, splitWire};
 use ringlog::Counted;
+use ringlog::RootAnswer;
 use split::SearchAnswer;
 
 // struct ringlog_count
@@ -119,16 +123,22 @@ pub extern "C" fn ringlog_audit(bytes: &[u8]) -> ExtentWire
     }
 }
 
+// A root or a refusal.
+fn root_wire(answer: RootAnswer) -> DigestWire
+    ensures { λ r. ⌜ r ≡ rootWire answer ⌝ }
+{
+    let digest = answer.digest;
+    DigestWire {
+        number: answer.number,
+        digest,
+    }
+}
+
 #[no_mangle]
 pub extern "C" fn ringlog_root(log: &[u8]) -> DigestWire
     ensures { λ r. ⌜ r ≡ rootWire (rootAnswer (now (log .entry))) ⌝ }
 {
-    let root = ringlog::root(log);
-    let digest = root.digest;
-    DigestWire {
-        number: root.number,
-        digest,
-    }
+    root_wire(ringlog::root(log))
 }
 
 #[no_mangle]
@@ -220,4 +230,53 @@ pub extern "C" fn ringlog_repair(first: &[u8], second: &[u8]) -> PieceWire
         offset: piece.offset as u64,
         length: piece.length as u64,
     }
+}
+
+#[no_mangle]
+pub extern "C" fn ringlog_rfc6962_root(log: &[u8]) -> DigestWire
+    ensures { λ r. ⌜ r ≡ rootWire (rfc.rootAnswer (now (log .entry))) ⌝ }
+{
+    root_wire(rfc6962::root(log))
+}
+
+#[no_mangle]
+pub extern "C" fn ringlog_rfc6962_path(log: &[u8], index: usize, output: &mut [u8]) -> CountWire
+    ensures { λ r. ⌜ r ≡ countWire (answer 0 (pathOf (now (log .entry)) index (length (now (output .entry))))) ⌝ }
+    ensures { λ _. ⌜ now (output .exit) ≡ after (now (output .entry)) 0 (pathOf (now (log .entry)) index (length (now (output .entry)))) ⌝ }
+{
+    count_wire(rfc6962::path(log, index, output))
+}
+
+#[no_mangle]
+pub extern "C" fn ringlog_rfc6962_check_path(
+    count: usize,
+    index: usize,
+    item: &[u8],
+    path: &[u8],
+    root: &[u8],
+) -> bool
+    ensures { λ r. ⌜ r ≡ proofHolds rfc6962 count index (now (item .entry)) (now (path .entry)) (now (root .entry)) ⌝ }
+{
+    rfc6962::check_path(count, index, item, path, root)
+}
+
+#[no_mangle]
+pub extern "C" fn ringlog_rfc6962_consistency(log: &[u8], m: usize, output: &mut [u8]) -> CountWire
+    ensures { λ r. ⌜ r ≡ countWire (answer 0 (consistencyOf (now (log .entry)) m (length (now (output .entry))))) ⌝ }
+    ensures { λ _. ⌜ now (output .exit) ≡ after (now (output .entry)) 0 (consistencyOf (now (log .entry)) m (length (now (output .entry)))) ⌝ }
+{
+    count_wire(rfc6962::consistency(log, m, output))
+}
+
+#[no_mangle]
+pub extern "C" fn ringlog_rfc6962_check_consistency(
+    m: usize,
+    n: usize,
+    proof: &[u8],
+    old: &[u8],
+    new: &[u8],
+) -> bool
+    ensures { λ r. ⌜ r ≡ consistencyHolds rfc6962 m n (now (proof .entry)) (now (old .entry)) (now (new .entry)) ⌝ }
+{
+    rfc6962::check_consistency(m, n, proof, old, new)
 }
