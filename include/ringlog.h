@@ -22,9 +22,9 @@
  *
  * Bytes need no alignment, and bytes that are lent as const may overlap: a root may lie in the log.
  *
- * Only ringlog_append and ringlog_proof write, and only when all their checks have passed. In which
- * order the bytes are written is not promised: if the power fails during the call, any of them may
- * be written and any not.
+ * Only ringlog_append, ringlog_cut and ringlog_proof write, and only when all their checks have
+ * passed. In which order the bytes are written is not promised: if the power fails during the call,
+ * any of them may be written and any not.
  *
  * THE LOG
  *
