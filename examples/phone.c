@@ -26,6 +26,7 @@
  * takes or sends a piece where logs differ.
  */
 
+#include "common.h"
 #include "ringlog.h"
 
 #include <inttypes.h>
@@ -33,7 +34,6 @@
 #include <stddef.h>
 #include <stdint.h>
 #include <stdio.h>
-#include <stdlib.h>
 #include <string.h>
 
 enum { SAME = 0, NOT_SAME = 1, UNUSABLE = 2 };
@@ -46,63 +46,6 @@ struct log {
     size_t entries;
     uint8_t root[RINGLOG_DIGEST];
 };
-
-/* What the number of a refusal means. */
-static const char *meaning(uint32_t number)
-{
-    switch (number) {
-    case RINGLOG_BAD_LENGTH: return "used above the buffer, no root, or too long a message";
-    case RINGLOG_BAD_INDEX: return "no such index";
-    case RINGLOG_BAD_ITEM: return "no value item";
-    case RINGLOG_FULL: return "the log has 4,096 entries already";
-    case RINGLOG_NO_ROOM: return "no room for the entry";
-    case RINGLOG_BAD_SHAPE: return "the log does not open or a link leads to no entry that fits";
-    case RINGLOG_BAD_DIGEST: return "a digest disagrees";
-    case RINGLOG_NO_ROOM_FOR_PROOF: return "no room for the proof";
-    default: return "a number that this app does not know";
-    }
-}
-
-/* Whether a call was answered. A refusal is printed, with its number and what that means. */
-static bool answered(const char *call, uint32_t number)
-{
-    if (number != RINGLOG_ANSWERED) {
-        printf("%s: refused with %" PRIu32 ", %s\n", call, number, meaning(number));
-    }
-    return number == RINGLOG_ANSWERED;
-}
-
-/* Whether the file could be read and is no longer than the longest log. Its bytes are in the log
-   then, and nothing is known of them yet. */
-static bool read_file(const char *name, struct log *log)
-{
-    FILE *file = fopen(name, "rb");
-    bool longer = false;
-    bool failed = true;
-
-    if (file != NULL) {
-        log->used = fread(log->bytes, 1, RINGLOG_LONGEST_LOG, file);
-        longer = log->used == RINGLOG_LONGEST_LOG && fgetc(file) != EOF;
-        failed = ferror(file) != 0;
-        fclose(file);
-    }
-    if (failed) {
-        fprintf(stderr, "%s: cannot be read\n", name);
-    } else if (longer) {
-        fprintf(stderr, "%s: over %d bytes\n", name, RINGLOG_LONGEST_LOG);
-    }
-    return !failed && !longer;
-}
-
-/* Whether the text is an index in one to nine digits. Which indices a log has is not asked here:
-   ringlog_value refuses the others. */
-static bool read_index(const char *text, size_t *index)
-{
-    size_t digits = strspn(text, "0123456789");
-
-    *index = (size_t)strtoul(text, NULL, 10);
-    return digits >= 1 && digits <= 9 && text[digits] == '\0';
-}
 
 /* Keeps the longest beginning that is a well-formed log; what is behind it is not looked at again.
    True but for a refused root, and the root of a well-formed log is not refused. */
@@ -117,10 +60,7 @@ static bool keep_well_formed(const char *name, struct log *log)
     log->used = (size_t)extent.bytes;
     memcpy(log->root, root.digest, RINGLOG_DIGEST);
     printf("root: ");
-    for (size_t i = 0; i < RINGLOG_DIGEST; i++) {
-        printf("%02x", (unsigned)log->root[i]);
-    }
-    printf("\n");
+    print_bytes(log->root, RINGLOG_DIGEST);
     return answered("root", root.number);
 }
 
@@ -191,21 +131,10 @@ static bool repair(struct log *copy, size_t common, const struct log *ring)
     return same;
 }
 
-/* The name of a value's kind. */
-static const char *kind_name(uint8_t kind)
-{
-    switch (kind) {
-    case RINGLOG_TAP: return "tap";
-    case RINGLOG_CHANGE: return "stored-value change";
-    case RINGLOG_TICKET: return "ticket";
-    default: return "of a kind that this app does not know";
-    }
-}
-
 /* True only if value `index` of the copy is proved under the ring's root, and with one bit changed
    is not. The root is that of as many values as the ring has, so a copy that has more is cut to as
-   many. A cut blanks what it cuts off, so it is made in other memory, and the copy keeps its values.
-   The check needs no log: count, index, item, proof and root are all that it is lent. */
+   many. A cut blanks what it cuts off, so it is made in other memory, and the copy keeps all of its
+   values. The check needs no log: count, index, item, proof and root are all that it is lent. */
 static bool prove(const struct log *copy, const struct log *ring, size_t index)
 {
     static uint8_t first[RINGLOG_LONGEST_LOG];
@@ -249,11 +178,12 @@ int main(int argc, char **argv)
     size_t index = 0;
     bool same;
 
-    if (argc < 3 || argc > 4 || (argc == 4 && !read_index(argv[3], &index))) {
+    if (argc < 3 || argc > 4 || (argc == 4 && !read_number(argv[3], &index))) {
         fprintf(stderr, "usage: phone COPY RECEIVED [INDEX]\n");
         return UNUSABLE;
     }
-    if (!read_file(argv[1], &copy) || !read_file(argv[2], &ring)) {
+    if (!read_file(argv[1], copy.bytes, &copy.used)
+        || !read_file(argv[2], ring.bytes, &ring.used)) {
         return UNUSABLE;
     }
     if (!keep_well_formed("received", &ring) || !keep_well_formed("copy", &copy)
