@@ -1,11 +1,11 @@
 /*
  * Falconyarn: a verified append-only log with a stratified hash tree.
  *
- * This is its C interface, for the phone, the ring's firmware and tests in any language, in C99 and
- * C++11. Link libringlog_c.a (made by `rt staticlib ringlog_c`). The library keeps no state between
- * calls, allocates nothing, and calls no other function than memcpy and memset, so it may be called
- * from any thread, and from several at once. Each call takes less than 8 KiB of stack, as
- * tests/c/stack_use.c measures.
+ * This is its C interface, for the phone, the ring's firmware, auditors and tests in any language,
+ * in C99 and C++11. Link libringlog_c.a (made by `rt staticlib ringlog_c`). The library keeps no
+ * state between calls, allocates nothing, and calls no other function than memcpy and memset, so it
+ * may be called from any thread, and from several at once. Each call takes less than 8 KiB of
+ * stack, as tests/c/stack_use.c measures.
  *
  * MEMORY
  *
@@ -22,9 +22,9 @@
  *
  * Bytes need no alignment, and bytes that are lent as const may overlap: a root may lie in the log.
  *
- * Only ringlog_append, ringlog_cut and ringlog_proof write, and only when all their checks have
- * passed. In which order the bytes are written is not promised: if the power fails during the call,
- * any of them may be written and any not.
+ * Only ringlog_append, ringlog_cut and the calls with an output write, and only when all their
+ * checks have passed. In which order the bytes are written is not promised: if the power fails
+ * during the call, any of them may be written and any not.
  *
  * THE LOG
  *
@@ -65,13 +65,34 @@
  * entry of that length and the right shape ends with them, whatever stands before that entry. In
  * what follows, n is the index of the last entry of a log that opens, and 0 for an empty log.
  *
- * Only the audit looks at every byte, so only its time grows with the log, and that of a cut with
- * the bytes that it blanks. Append and root look at the last entry. Cut, value and proof go from
- * there to the entry that is wanted, from the top of the tree down, by at most 12 links; search and
+ * Only the audit looks at every byte, and the three calls of the auditors' edition that are lent a
+ * log, which audit it first. So only their time grows with the log, and that of a cut with the
+ * bytes that it blanks. Append and root look at the last entry. Cut, value and proof go from there
+ * to the entry that is wanted, from the top of the tree down, by at most 12 links; search and
  * repair do so in two logs, and in each at most twice. A link is a left offset and a left digest:
  * the entry there must have the right shape and the index wanted (else 6), and then it must store
  * that digest (else 7). No other entry is looked at, so what else stands in the log does not matter
  * to them.
+ *
+ * THE AUDITORS' EDITION
+ *
+ * Auditors have tools for the trees of RFC 6962 (Certificate Transparency, section 2.1). So the
+ * values of a log have a second root, with proofs of its own, in the calls named ringlog_rfc6962_.
+ * Nothing of it is stored in a log: it is worked out of the values.
+ *
+ *   - A leaf digest is the SHA-256 of 0x00 and the value item, kind byte included.
+ *   - Of n > 1 values the first k are under the left child and the others under the right one,
+ *     where k is the largest power of two that is smaller than n. The digest of any node is the
+ *     SHA-256 of 0x01, the left child's digest and the right child's.
+ *   - The root of no values is the SHA-256 of no bytes.
+ *
+ * Leaves and splits are those of the log's own tree. The byte before a node is its height there, so
+ * the roots of 1 and 2 values are the same in both editions, and those of none and of more are not.
+ *
+ * A path shows that a value is under a root, and a consistency proof that the values under a root
+ * go on behind those under an older one. Their checks need no log. Values are numbered from 1 here
+ * too: what the RFC calls leaf 0 is value 1. A root does not say how many values are under it: keep
+ * it with its count.
  *
  * SIZES, in bytes
  *
@@ -89,6 +110,12 @@
  *   hops(n, i) = (how many ones floor(n / 2^(j + 1)) has in binary) + j
  *                + (0 if n ends in exactly j binary zeros, else 1)
  *
+ * A path of the auditors' edition has as many bytes as that proof. A consistency proof from m to n
+ * values has 32 * digests(m, n) bytes, at most 416. digests(n, n) is 0, and for m below n
+ *
+ *   digests(m, n) = hops(n, m) - (how many zeros m ends in, in binary)
+ *                   + (0 if m is a power of two, else 1)
+ *
  * EXAMPLES
  *
  * The examples below form one program, in this order: each may use what those before it made. It
@@ -103,13 +130,15 @@
 #include <stdint.h>
 
 /* Sizes for the caller's buffers; in bytes, but for the values. */
-#define RINGLOG_MOST_VALUES 4096      /* values in a log */
-#define RINGLOG_LONGEST_LOG 2097152   /* so many tickets: no well-formed log is longer */
-#define RINGLOG_LONGEST_ENTRY 932     /* what an append writes at most */
-#define RINGLOG_LONGEST_ITEM 49       /* kind and body of a ticket */
-#define RINGLOG_LONGEST_PROOF 384     /* in such an output no proof is refused with 8 */
-#define RINGLOG_LONGEST_MESSAGE 65535 /* what ringlog_sha256 takes at most */
-#define RINGLOG_DIGEST 32             /* a digest, and so a root */
+#define RINGLOG_MOST_VALUES 4096        /* values in a log */
+#define RINGLOG_LONGEST_LOG 2097152     /* so many tickets: no well-formed log is longer */
+#define RINGLOG_LONGEST_ENTRY 932       /* what an append writes at most */
+#define RINGLOG_LONGEST_ITEM 49         /* kind and body of a ticket */
+#define RINGLOG_LONGEST_PROOF 384       /* in such an output no proof is refused with 8, */
+#define RINGLOG_LONGEST_PATH 384        /* in this one no path of the auditors' edition, */
+#define RINGLOG_LONGEST_CONSISTENCY 416 /* and in this one no consistency proof */
+#define RINGLOG_LONGEST_MESSAGE 65535   /* what ringlog_sha256 takes at most */
+#define RINGLOG_DIGEST 32               /* a digest, and so a root */
 
 /* Kinds: the first byte of a value item. */
 #define RINGLOG_TAP 0x10
@@ -122,14 +151,16 @@
  *   0  answered
  *   1  a message to hash is longer than 65,535 bytes; used is above the buffer's length; a root has
  *      not 32 bytes
- *   2  the index is 0 or above n; the count of a cut is above n
+ *   2  the index is 0 or above n; the count of a cut is above n; the old count of a consistency
+ *      proof is 0 or above n
  *   3  a value item to append has an unknown kind or a wrong length
  *   4  the log has 4,096 entries already
  *   5  the entry is longer than the buffer's room after used
- *   6  the log does not open; a link leads to no entry of the right shape with the index wanted
+ *   6  the log does not open; a link leads to no entry of the right shape with the index wanted; in
+ *      the auditors' edition, the log is not well formed
  *   7  a link's digest is not the one stored where it leads; a value does not fold to the root; two
  *      logs store different digests for a node, and the same ones for both of its children
- *   8  the proof is longer than the output
+ *   8  the proof, path or consistency proof is longer than the output
  *
  * Where several apply, the first counts in the order that stands at the call. Look at the number
  * before all else: what is beside it is 0 where the call is refused, so that a refused append
@@ -475,6 +506,135 @@ struct ringlog_split ringlog_search(const uint8_t *first, size_t first_len,
  */
 struct ringlog_piece ringlog_repair(const uint8_t *first, size_t first_len,
                                     const uint8_t *second, size_t second_len);
+
+/*
+ * The RFC 6962 root of a log's values; for an empty log the SHA-256 of no bytes. It is worked out
+ * of the values and not read, behind an audit: where it answers, every byte of the log is the one
+ * that is written for its values. ringlog_audit says how many they are; an auditor keeps that count
+ * beside the root. Writes nothing.
+ *
+ * Refused with 6 where the log is not well formed: a byte is wrong anywhere, also in a digest of an
+ * old entry, or a byte is over. Then ringlog_audit says how much of it counts.
+ *
+ * Example, what an auditor keeps of the first two taps, and of all three:
+ *
+ *     struct ringlog_digest kept = ringlog_rfc6962_root(ring, 52 + 122);
+ *     struct ringlog_digest head = ringlog_rfc6962_root(ring, used);
+ *     assert(kept.number == RINGLOG_ANSWERED && head.number == RINGLOG_ANSWERED);
+ *     assert(head.digest[0] == 0xff && head.digest[1] == 0x5f && head.digest[31] == 0x97);
+ *     assert(ringlog_rfc6962_root(ring, used - 1).number == RINGLOG_BAD_SHAPE);
+ */
+struct ringlog_digest ringlog_rfc6962_root(const uint8_t *log, size_t log_len);
+
+/*
+ * Writes a path that shows value `index` under the RFC 6962 root of a log of n values: the digests
+ * of its siblings in that tree, 32 bytes each, the one next to the leaf first, as in the RFC. The
+ * value is how many bytes it has, 32 * hops(n, index); the rest of the output stays as it was. A
+ * path has at most 384 bytes, and none where n is 1. The index counts from 1, where the RFC's
+ * counts from 0.
+ *
+ * Refused, the first that applies, with value 0 and no byte written:
+ *   6  the log is not well formed;
+ *   2  index is 0 or above n, and so any index where the log is empty;
+ *   8  the path is longer than output_len.
+ *
+ * Example, value 2 of three: the leaf digests of values 1 and 3:
+ *
+ *     uint8_t path[RINGLOG_LONGEST_PATH];
+ *     struct ringlog_count shown = ringlog_rfc6962_path(ring, used, 2, path, sizeof path);
+ *     assert(shown.number == RINGLOG_ANSWERED && shown.value == 2 * RINGLOG_DIGEST);
+ *     assert(memcmp(path, leaf_digest.digest, RINGLOG_DIGEST) == 0);
+ */
+struct ringlog_count ringlog_rfc6962_path(const uint8_t *log, size_t log_len, size_t index,
+                                          uint8_t *output, size_t output_len);
+
+/*
+ * Whether a path shows that a value item is value `index` of `count` values with this RFC 6962
+ * root. No log is needed. True exactly when
+ *   - 1 <= index <= count <= 4,096,
+ *   - the item is a value item,
+ *   - the path has 32 * hops(count, index) bytes, no less and no more,
+ *   - root_len is 32,
+ *   - and the item, folded with the path, gives the root.
+ * There are no refusals: everything else is false. Writes nothing.
+ *
+ * A path that other RFC 6962 software made will do, if its leaf data was the value item with its
+ * kind byte; the leaf index there is one less than the index here.
+ *
+ * Example, value 2 of 3, and another item in its place:
+ *
+ *     bool included = ringlog_rfc6962_check_path(3, 2, value, part.length, path, shown.value,
+ *                                                head.digest, sizeof head.digest);
+ *     bool replaced = ringlog_rfc6962_check_path(3, 2, tap, sizeof tap, path, shown.value,
+ *                                                head.digest, sizeof head.digest);
+ *     assert(included && !replaced);
+ */
+bool ringlog_rfc6962_check_path(size_t count, size_t index, const uint8_t *item, size_t item_len,
+                                const uint8_t *path, size_t path_len,
+                                const uint8_t *root, size_t root_len);
+
+/*
+ * Writes a consistency proof: that the RFC 6962 root of a log of n values goes on from the root of
+ * its first `old_count` values. It is PROOF(old_count, D[n]) of the RFC's section 2.1.2, digests of
+ * 32 bytes each in the RFC's order, the innermost first. The value is how many bytes it has; the
+ * rest of the output stays as it was. A proof has at most 416 bytes, and none where old_count is n.
+ * The old root is left out where it is a digest of the new tree, that is where old_count is a power
+ * of two. An auditor who has seen no values needs no proof: any log goes on from there.
+ *
+ * Refused, the first that applies, with value 0 and no byte written:
+ *   6  the log is not well formed;
+ *   2  old_count is 0 or above n, and so any old_count where the log is empty;
+ *   8  the proof is longer than output_len.
+ *
+ * Example, from two taps to three, where the digest of value 3 is all that the older root lacks:
+ *
+ *     uint8_t growth[RINGLOG_LONGEST_CONSISTENCY];
+ *     struct ringlog_count grown =
+ *         ringlog_rfc6962_consistency(ring, used, 2, growth, sizeof growth);
+ *     assert(grown.number == RINGLOG_ANSWERED && grown.value == RINGLOG_DIGEST);
+ *     assert(memcmp(growth, path + RINGLOG_DIGEST, RINGLOG_DIGEST) == 0);
+ */
+struct ringlog_count ringlog_rfc6962_consistency(const uint8_t *log, size_t log_len,
+                                                 size_t old_count,
+                                                 uint8_t *output, size_t output_len);
+
+/*
+ * Whether a consistency proof shows that `new_count` values with the RFC 6962 root new_root go on
+ * from `old_count` values with the root old_root. No log is needed. True exactly when
+ *   - 1 <= old_count <= new_count <= 4,096,
+ *   - old_root_len and new_root_len are 32,
+ *   - the proof has 32 * digests(old_count, new_count) bytes, no less and no more,
+ *   - and both roots come out of it by the RFC's rule, where old_root stands in if the proof has no
+ *     digest for it: if old_count is new_count, or a power of two.
+ * So where the counts are equal the proof is empty, and true means equal roots. There are no
+ * refusals: everything else is false. Writes nothing.
+ *
+ * What true is worth: if old_root is that of a list of old_count values, and new_root that of a
+ * list of new_count values, then the one list is the beginning of the other, or two different
+ * inputs with one SHA-256 digest stand among those that the two roots and this check are made of.
+ * Of a root that is no list's, or that was reported with a false count, it says nothing.
+ *
+ * Example, a third tap behind the two that are known, and a log in which the second is another:
+ *
+ *     bool goes_on = ringlog_rfc6962_check_consistency(2, 3, growth, grown.value,
+ *                                                      kept.digest, sizeof kept.digest,
+ *                                                      head.digest, sizeof head.digest);
+ *     assert(goes_on);
+ *
+ *     struct ringlog_count second = ringlog_append(copy, sizeof copy, 52, tap, sizeof tap);
+ *     struct ringlog_count third =
+ *         ringlog_append(copy, sizeof copy, second.value, tap, sizeof tap);
+ *     struct ringlog_digest rewritten = ringlog_rfc6962_root(copy, third.value);
+ *     grown = ringlog_rfc6962_consistency(copy, third.value, 2, growth, sizeof growth);
+ *     assert(rewritten.number == RINGLOG_ANSWERED && grown.number == RINGLOG_ANSWERED);
+ *     assert(!ringlog_rfc6962_check_consistency(2, 3, growth, grown.value,
+ *                                               kept.digest, sizeof kept.digest,
+ *                                               rewritten.digest, sizeof rewritten.digest));
+ */
+bool ringlog_rfc6962_check_consistency(size_t old_count, size_t new_count,
+                                       const uint8_t *proof, size_t proof_len,
+                                       const uint8_t *old_root, size_t old_root_len,
+                                       const uint8_t *new_root, size_t new_root_len);
 
 #ifdef __cplusplus
 }
