@@ -1,14 +1,17 @@
 #!/usr/bin/env python3
 """make_samples.py FOLDER: writes sample logs for ringaudit, and beside each NAME.log a NAME.txt, what ringaudit prints of it.
-In FOLDER/phone it writes logs for examples/phone.c, and runs.txt, what that prints of them, with its status.
+In FOLDER/phone and FOLDER/auditor it writes logs for the examples of these names, and runs.txt, what they print of them, with
+the status.
 
-What is expected comes from a plain model of document 01 on lists of values, which shares nothing with the crates.
+What is expected comes from plain models on lists of values, of document 01 and of RFC 6962, which share nothing with the
+crates.
 """
 import sys
 from pathlib import Path
 
 sys.dont_write_bytecode = True  # a run leaves nothing in the repository
 
+from samples.auditor import auditor_samples
 from samples.log import BODY, CHANGE, TAP, TICKET, bent, log, whole
 from samples.phone import phone_samples
 
@@ -32,8 +35,9 @@ def main():
     }.items():
         (folder / (name + ".log")).write_bytes(data)
         (folder / (name + ".txt")).write_text(report(counted, data))
-    (folder / "phone").mkdir(exist_ok=True)
-    phone_samples(folder / "phone", values)
+    for name, samples in [("phone", phone_samples), ("auditor", auditor_samples)]:
+        (folder / name).mkdir(exist_ok=True)
+        samples(folder / name, values)
 
 
 main()

@@ -1,1 +1,1 @@
-"""The samples: the log of document 01, and what each program says of logs that are made here."""
+"""The samples: the log of document 01, the tree of RFC 6962, and what each program says of logs that they make."""
