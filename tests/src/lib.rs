@@ -3,9 +3,10 @@
 //! values and logs to try, bent bytes, forged logs and their links, long logs with one fault on a way,
 //! logs of over 2^32 bytes, pairs of logs and what a search answers of them, claims for a proof check,
 //! what is refused, random cases of all calls, memory to lend, repeatable random bytes, very long
-//! messages, and a clock.
+//! messages, hex digits, and a clock.
 
-/// Document 01 in plain Rust, made to be seen right and not to be fast.
+/// Documents 01 and 02 in plain Rust, and RFC 6962 where 02 names it, made to be seen right and not
+/// to be fast.
 pub mod model {
     mod calls;
     pub mod comparison;
@@ -14,6 +15,9 @@ pub mod model {
     pub mod item;
     mod log;
     pub mod reads;
+    pub mod rfc6962;
+    mod rfc6962_calls;
+    pub mod rfc6962_checks;
     pub mod search;
     pub mod sha256;
     pub mod tree;
@@ -21,7 +25,9 @@ pub mod model {
     pub use calls::{append, cut, end_of_entry, proof, root, value};
     pub use comparison::compare;
     pub use inclusion::check_proof;
-    pub use log::{audit, Log};
+    pub use log::{audit, values, Log};
+    pub use rfc6962_calls::{rfc6962_consistency, rfc6962_path, rfc6962_root};
+    pub use rfc6962_checks::{rfc6962_check_consistency, rfc6962_check_path};
     pub use search::{repair, search};
     pub use sha256::sha256;
 }
@@ -53,6 +59,7 @@ pub mod bent;
 pub mod claims;
 pub mod far;
 pub mod forged;
+pub mod hex;
 pub mod links;
 pub mod logs;
 pub mod long;

@@ -57,6 +57,22 @@ pub fn value(random: &mut Random) -> Vec<u8> {
     value_of(VALUES[random.up_to(2)], random)
 }
 
+/// Taps whose bodies are the numbers from 1.
+pub fn numbered_taps(count: u64) -> Vec<Vec<u8>> {
+    let tap = |k: u64| [&[TAP], &k.to_be_bytes()[..]].concat();
+    (1..=count).map(tap).collect()
+}
+
+/// Values of mixed kinds: value k has the kind 0x10 + k mod 3, and every byte of its body is k.
+pub fn numbered_values(count: u8) -> Vec<Vec<u8>> {
+    let value = |k: u8| match k % 3 {
+        0 => [&[0x10][..], &[k; 8]].concat(),
+        1 => [&[0x11][..], &[k; 16]].concat(),
+        _ => [&[0x12][..], &[k; 48]].concat(),
+    };
+    (1..=count).map(value).collect()
+}
+
 /// The log of `count` random values of mixed kinds.
 pub fn log(count: usize, random: &mut Random) -> Log {
     let values: Vec<_> = (0..count).map(|_| value(random)).collect();

@@ -2,7 +2,9 @@
 //! this project.
 
 use ringlog_tests::forged::Forged;
+use ringlog_tests::hex::hex;
 use ringlog_tests::links::{MET_OF_EIGHT, RUNNING_OUT};
+use ringlog_tests::logs::{numbered_taps, numbered_values};
 use ringlog_tests::model::comparison::Verdict;
 use ringlog_tests::model::entry::last_entry;
 use ringlog_tests::model::inclusion::{fold, hops};
@@ -16,16 +18,6 @@ use ringlog_tests::model::walk::{bring_to, left_step, Met};
 use ringlog_tests::model::{self, Log};
 use ringlog_tests::random::Random;
 use ringlog_tests::{forged, links, logs, refused, ways};
-
-fn hex(bytes: &[u8]) -> String {
-    bytes.iter().map(|byte| format!("{byte:02x}")).collect()
-}
-
-/// Taps whose bodies are the numbers from 1.
-fn numbered_taps(count: u64) -> Vec<Vec<u8>> {
-    let tap = |k: u64| [&[0x10], &k.to_be_bytes()[..]].concat();
-    (1..=count).map(tap).collect()
-}
 
 #[test]
 fn entries_7_and_22_have_the_nodes_of_the_bench_sheet() {
@@ -75,16 +67,6 @@ fn the_roots_of_one_to_eight_values_are_those_of_the_trees_written_out() {
     for (n, root) in roots.into_iter().enumerate() {
         assert_eq!(Log::of(&values[..n]).root(), root, "{n} values");
     }
-}
-
-/// Value k has the kind 0x10 + k mod 3, and every byte of its body is k.
-fn numbered_values(count: u8) -> Vec<Vec<u8>> {
-    let value = |k: u8| match k % 3 {
-        0 => [&[0x10][..], &[k; 8]].concat(),
-        1 => [&[0x11][..], &[k; 16]].concat(),
-        _ => [&[0x12][..], &[k; 48]].concat(),
-    };
-    (1..=count).map(value).collect()
 }
 
 /// The digests are from a program of its own, with the hash of Python's standard library.

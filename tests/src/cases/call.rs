@@ -1,5 +1,6 @@
 //! A case: one call of the C interface with all the bytes and numbers that it is lent.
 
+use crate::hex::hex;
 use std::fmt::{self, Display, Formatter};
 
 /// The calls, in the order of include/ringlog.h.
@@ -82,13 +83,9 @@ impl Display for Case {
             writeln!(f, "  {name}: {number}")?;
         }
         for (name, bytes) in slices.iter().zip(&self.lent) {
-            writeln!(f, "  {name}: {} bytes {}", bytes.len(), hex(bytes))?;
+            let shown = hex(&bytes[..bytes.len().min(SHOWN)]);
+            writeln!(f, "  {name}: {} bytes {shown}", bytes.len())?;
         }
         Ok(())
     }
-}
-
-fn hex(bytes: &[u8]) -> String {
-    let shown = bytes.iter().take(SHOWN);
-    shown.map(|byte| format!("{byte:02x}")).collect()
 }
