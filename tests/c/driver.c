@@ -27,7 +27,24 @@
 #define MOST_FIELDS 33
 
 /* In the order of ringlog.h. */
-enum call { SHA256, APPEND, AUDIT, ROOT, VALUE, PROOF, CHECK_PROOF, CUT, SEARCH, REPAIR, CALLS };
+enum call {
+    SHA256,
+    APPEND,
+    AUDIT,
+    ROOT,
+    VALUE,
+    PROOF,
+    CHECK_PROOF,
+    CUT,
+    SEARCH,
+    REPAIR,
+    RFC6962_ROOT,
+    RFC6962_PATH,
+    RFC6962_CHECK_PATH,
+    RFC6962_CONSISTENCY,
+    RFC6962_CHECK_CONSISTENCY,
+    CALLS
+};
 
 /* What each call is lent: how many slices, and how many numbers beside their lengths. */
 static const struct {
@@ -35,8 +52,21 @@ static const struct {
     uint64_t slices;
     uint64_t numbers;
 } lends[CALLS] = {
-    {"sha256", 1, 0}, {"append", 2, 1},      {"audit", 1, 0}, {"root", 1, 0},   {"value", 2, 1},
-    {"proof", 2, 1},  {"check_proof", 3, 2}, {"cut", 1, 2},   {"search", 2, 0}, {"repair", 2, 0},
+    {"sha256", 1, 0},
+    {"append", 2, 1},
+    {"audit", 1, 0},
+    {"root", 1, 0},
+    {"value", 2, 1},
+    {"proof", 2, 1},
+    {"check_proof", 3, 2},
+    {"cut", 1, 2},
+    {"search", 2, 0},
+    {"repair", 2, 0},
+    {"rfc6962_root", 1, 0},
+    {"rfc6962_path", 2, 1},
+    {"rfc6962_check_path", 3, 2},
+    {"rfc6962_consistency", 2, 1},
+    {"rfc6962_check_consistency", 3, 2},
 };
 
 struct slice {
@@ -249,6 +279,18 @@ static struct fields answer_of(const struct trial *trial)
         return of_split(ringlog_search(a.bytes, a.len, b.bytes, b.len));
     case REPAIR:
         return of_piece(ringlog_repair(a.bytes, a.len, b.bytes, b.len));
+    case RFC6962_ROOT:
+        return of_digest(ringlog_rfc6962_root(a.bytes, a.len));
+    case RFC6962_PATH:
+        return of_count(ringlog_rfc6962_path(a.bytes, a.len, x, b.bytes, b.len));
+    case RFC6962_CHECK_PATH:
+        return of_bool(
+            ringlog_rfc6962_check_path(x, y, a.bytes, a.len, b.bytes, b.len, c.bytes, c.len));
+    case RFC6962_CONSISTENCY:
+        return of_count(ringlog_rfc6962_consistency(a.bytes, a.len, x, b.bytes, b.len));
+    case RFC6962_CHECK_CONSISTENCY:
+        return of_bool(ringlog_rfc6962_check_consistency(x, y, a.bytes, a.len, b.bytes, b.len,
+                                                         c.bytes, c.len));
     case CALLS:
         break;
     }

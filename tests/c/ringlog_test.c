@@ -1,5 +1,5 @@
 /* The C interface as a C program sees it: the layout of its structs, its names for numbers, known
-   digests, short logs, and the sizes of full ones. */
+   digests, short logs in both editions, and the sizes of full ones. */
 
 #include "ringlog.h"
 
@@ -356,6 +356,118 @@ static void check_proofs(void)
           "a bent byte is not");
 }
 
+/* The roots are from a program of its own, with the hash of Python's standard library. */
+static void check_rfc6962_roots(void)
+{
+    uint8_t bent[296];
+
+    check(is_digest(ringlog_rfc6962_root(three_taps, 0),
+                    "e3b0c44298fc1c149afbf4c8996fb92427ae41e4649b934ca495991b7852b855"),
+          "the RFC's root of an empty log is the digest of no bytes");
+    check(is_digest(ringlog_rfc6962_root(three_taps, 52),
+                    "31cf8e61894d648e857cc6d14f8352c20c14d12f92a5f8dce26f01224a63376d"),
+          "the RFC's root of one tap is its leaf digest");
+    check(is_digest(ringlog_rfc6962_root(three_taps, 174),
+                    "c13ddaafdc82a50191374f1d2a4cdb72cb575a2e8990dd3b69bc0dd6a82e19c9"),
+          "the RFC's root of two taps is the one of the first edition");
+    check(is_digest(ringlog_rfc6962_root(three_taps, 296),
+                    "ff5fbab9c7161b420d374e3046bca9008b07043c572d8380f3d528fd137e6c97"),
+          "the RFC's root of three taps is another one");
+    check(is_zeros(ringlog_rfc6962_root(three_taps, 295), 6), "of a torn log it is 6");
+    memcpy(bent, three_taps, sizeof bent);
+    bent[15] ^= 1;
+    check(is_zeros(ringlog_rfc6962_root(bent, 296), 6), "of a log with a bent digest it is 6");
+    check(ringlog_root(bent, 296).number == 0, "where the first edition's is answered");
+}
+
+static void check_rfc6962_paths(void)
+{
+    struct ringlog_digest root = ringlog_rfc6962_root(three_taps, 296);
+    struct ringlog_digest first_two = ringlog_rfc6962_root(three_taps, 174);
+    uint8_t zeros[64] = {0};
+    uint8_t path[65] = {0};
+
+    check(is_count(ringlog_rfc6962_path(three_taps, 295, 0, path, 0), 6, 0),
+          "the path of a torn log is 6");
+    check(is_count(ringlog_rfc6962_path(three_taps, 296, 0, path, 0), 2, 0),
+          "the path of index 0 is 2");
+    check(is_count(ringlog_rfc6962_path(three_taps, 296, 4, path, 0), 2, 0),
+          "the path of index n + 1 is 2");
+    check(is_count(ringlog_rfc6962_path(three_taps, 0, 1, path, 0), 2, 0),
+          "a path of an empty log is 2");
+    check(is_count(ringlog_rfc6962_path(three_taps, 296, 1, path, 63), 8, 0),
+          "a path of 64 bytes into 63 is 8");
+    check(memcmp(path, zeros, 64) == 0, "a refused path writes nothing");
+    check(is_count(ringlog_rfc6962_path(three_taps, 296, 3, path, 32), 0, 32),
+          "the path of value 3 has one digest");
+    check(memcmp(path, first_two.digest, 32) == 0, "it is the RFC's root of the first two");
+    path[64] = 0x5a;
+    check(is_count(ringlog_rfc6962_path(three_taps, 296, 1, path, 65), 0, 64),
+          "the path of value 1 has two");
+    check(path[64] == 0x5a, "the rest of its output stays");
+    check(ringlog_rfc6962_check_path(3, 1, first_tap, 9, path, 64, root.digest, 32),
+          "that path is accepted");
+    check(!ringlog_rfc6962_check_path(3, 1, second_tap, 9, path, 64, root.digest, 32),
+          "for another tap it is not");
+    check(!ringlog_rfc6962_check_path(3, 2, first_tap, 9, path, 64, root.digest, 32),
+          "for another index it is not");
+    check(!ringlog_rfc6962_check_path(3, 1, first_tap, 9, path, 65, root.digest, 32),
+          "with a byte over it is not");
+    check(!ringlog_rfc6962_check_path(3, 1, first_tap, 9, path, 64, root.digest, 31),
+          "with a root of 31 bytes it is not");
+    root = ringlog_root(three_taps, 296);
+    check(!ringlog_rfc6962_check_path(3, 1, first_tap, 9, path, 64, root.digest, 32),
+          "with the first edition's root it is not");
+    check(ringlog_check_proof(3, 1, first_tap, 9, path, 64, root.digest, 32),
+          "which it is a proof for, since its digests are leaves");
+}
+
+static void check_rfc6962_consistency(void)
+{
+    struct ringlog_digest one = ringlog_rfc6962_root(three_taps, 52);
+    struct ringlog_digest two = ringlog_rfc6962_root(three_taps, 174);
+    struct ringlog_digest three = ringlog_rfc6962_root(three_taps, 296);
+    uint8_t zeros[65] = {0};
+    uint8_t proof[65] = {0};
+
+    check(is_count(ringlog_rfc6962_consistency(three_taps, 295, 0, proof, 0), 6, 0),
+          "the consistency proof of a torn log is 6");
+    check(is_count(ringlog_rfc6962_consistency(three_taps, 296, 0, proof, 0), 2, 0),
+          "from 0 values it is 2");
+    check(is_count(ringlog_rfc6962_consistency(three_taps, 296, 4, proof, 0), 2, 0),
+          "from n + 1 values it is 2");
+    check(is_count(ringlog_rfc6962_consistency(three_taps, 296, 1, proof, 63), 8, 0),
+          "a proof of 64 bytes into 63 is 8");
+    check(is_count(ringlog_rfc6962_consistency(three_taps, 296, 3, proof, 65), 0, 0),
+          "from n values it has no bytes");
+    check(memcmp(proof, zeros, 65) == 0, "none of these has written anything");
+    check(ringlog_rfc6962_check_consistency(3, 3, proof, 0, three.digest, 32, three.digest, 32),
+          "no bytes are accepted for equal roots");
+    check(!ringlog_rfc6962_check_consistency(3, 3, proof, 0, two.digest, 32, three.digest, 32),
+          "for others they are not");
+    check(!ringlog_rfc6962_check_consistency(3, 3, proof, 32, three.digest, 32, three.digest, 32),
+          "32 bytes are not for equal counts");
+    check(is_count(ringlog_rfc6962_consistency(three_taps, 296, 2, proof, 65), 0, 32),
+          "from 2 to 3 values there is one digest");
+    check(memcmp(proof + 32, zeros, 33) == 0, "the rest of that output stays");
+    check(ringlog_rfc6962_check_consistency(2, 3, proof, 32, two.digest, 32, three.digest, 32),
+          "that proof is accepted");
+    check(!ringlog_rfc6962_check_consistency(2, 3, proof, 32, one.digest, 32, three.digest, 32),
+          "with another old root it is not");
+    check(!ringlog_rfc6962_check_consistency(2, 3, proof, 32, two.digest, 32, two.digest, 32),
+          "with another new root it is not");
+    check(!ringlog_rfc6962_check_consistency(1, 3, proof, 32, two.digest, 32, three.digest, 32),
+          "for another old count it is not");
+    check(!ringlog_rfc6962_check_consistency(2, 3, proof, 33, two.digest, 32, three.digest, 32),
+          "with a byte left over it is not");
+    check(!ringlog_rfc6962_check_consistency(2, 3, proof, 32, two.digest, 31, three.digest, 32),
+          "with an old root of 31 bytes it is not");
+    check(!ringlog_rfc6962_check_consistency(2, 3, proof, 32, two.digest, 32, three.digest, 31),
+          "with a new root of 31 bytes it is not");
+    check(!ringlog_rfc6962_check_consistency(0, 3, proof, 0, one.digest, 32, three.digest, 32),
+          "from 0 values nothing is");
+}
+
 /* Three taps of which the second is another. */
 static void append_other_taps(uint8_t *log)
 {
@@ -506,6 +618,34 @@ static void check_full_log(void)
           "that proof of value 1 of 4,096 is accepted");
 }
 
+/* The same log in the RFC's edition. The longest consistency proof has 13 digests. */
+static void check_full_log_rfc6962(void)
+{
+    static const uint8_t ticket[49] = {0x12};
+    const size_t three_tickets = 92 + 162 + 162;
+    uint8_t proof[416];
+    struct ringlog_digest root = ringlog_rfc6962_root(full, sizeof full);
+    struct ringlog_digest old_root = ringlog_rfc6962_root(full, three_tickets);
+
+    check(root.number == 0 && old_root.number == 0, "4,096 tickets have an RFC root");
+    check(is_count(ringlog_rfc6962_path(full, sizeof full, 4096, proof, 384), 0, 384),
+          "the path of value 4,096 has 12 digests");
+    check(ringlog_rfc6962_check_path(4096, 4096, ticket, 49, proof, 384, root.digest, 32),
+          "that path of value 4,096 is accepted");
+    check(!ringlog_rfc6962_check_path(4097, 4096, ticket, 49, proof, 384, root.digest, 32),
+          "of 4,097 values it is not");
+    check(is_count(ringlog_rfc6962_consistency(full, sizeof full, 3, proof, 415), 8, 0),
+          "415 bytes are too few for the proof from 3 values");
+    check(is_count(ringlog_rfc6962_consistency(full, sizeof full, 3, proof, 416), 0, 416),
+          "it has 13 digests");
+    check(ringlog_rfc6962_check_consistency(3, 4096, proof, 416, old_root.digest, 32,
+                                            root.digest, 32),
+          "that proof from 3 to 4,096 values is accepted");
+    check(!ringlog_rfc6962_check_consistency(3, 4097, proof, 416, old_root.digest, 32,
+                                             root.digest, 32),
+          "to 4,097 values it is not");
+}
+
 int main(void)
 {
     check_layout();
@@ -520,11 +660,15 @@ int main(void)
     check_refused_cuts();
     check_values();
     check_proofs();
+    check_rfc6962_roots();
+    check_rfc6962_paths();
+    check_rfc6962_consistency();
     check_searches();
     check_refused_searches();
     check_repairs();
     check_sizes();
     check_full_log();
+    check_full_log_rfc6962();
     printf("%d passed, %d failed\n", passed, failed);
     return failed == 0 ? 0 : 1;
 }

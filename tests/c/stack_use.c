@@ -16,8 +16,8 @@
 
 #define LIMIT 8192
 
-/* The most for a checked value and for a proof check, whose fold is a loop: a fold that took some
-   stack for each height would be above. */
+/* The most for a checked value, and for a proof check or a path check, whose fold is a loop: a fold
+   that took some stack for each height would be above. */
 #define VALUE_LIMIT 2700
 #define CHECK_LIMIT 2048
 
@@ -88,6 +88,8 @@ static struct ringlog_part part;
 static struct ringlog_split split;
 static struct ringlog_piece piece;
 static uint8_t proof[12 * 32];
+static struct ringlog_digest old_root;
+static uint8_t consistency[13 * 32];
 static bool accepted;
 
 static void call_nothing(void)
@@ -150,6 +152,36 @@ static void call_search(void)
 static void call_repair(void)
 {
     piece = ringlog_repair(buffer, used, other, other_used);
+}
+
+/* The RFC 6962 edition: the path of value 1, and the consistency proof from 3 values, are the
+   longest. */
+static void call_rfc6962_root(void)
+{
+    digest = ringlog_rfc6962_root(buffer, used);
+}
+
+static void call_rfc6962_path(void)
+{
+    count = ringlog_rfc6962_path(buffer, used, 1, proof, sizeof proof);
+}
+
+static void call_rfc6962_check_path(void)
+{
+    accepted = ringlog_rfc6962_check_path(4095, 1, tap, sizeof tap, proof, sizeof proof,
+                                          digest.digest, sizeof digest.digest);
+}
+
+static void call_rfc6962_consistency(void)
+{
+    count = ringlog_rfc6962_consistency(buffer, used, 3, consistency, sizeof consistency);
+}
+
+static void call_rfc6962_check_consistency(void)
+{
+    accepted = ringlog_rfc6962_check_consistency(3, 4095, consistency, sizeof consistency,
+                                                 old_root.digest, sizeof old_root.digest,
+                                                 digest.digest, sizeof digest.digest);
 }
 
 /* A function that is known to take more than the limit. */
@@ -240,6 +272,22 @@ static void measure_log_calls(void)
     check(accepted, "that proof is accepted");
 }
 
+/* Of the same 4,095 taps, of which the first three end at 296. */
+static void measure_rfc6962_calls(void)
+{
+    measure("rfc6962_root of 4,095 taps", call_rfc6962_root);
+    check(digest.number == 0, "that root is answered");
+    measure("rfc6962_path of value 1 of 4,095 taps", call_rfc6962_path);
+    check(count.number == 0 && count.value == sizeof proof, "that path is answered");
+    measure_within(CHECK_LIMIT, "check of that path", call_rfc6962_check_path);
+    check(accepted, "that path is accepted");
+    measure("rfc6962_consistency from 3 to 4,095 taps", call_rfc6962_consistency);
+    check(count.number == 0 && count.value == sizeof consistency, "that proof is answered");
+    old_root = ringlog_rfc6962_root(buffer, 296);
+    measure("check of that consistency proof", call_rfc6962_check_consistency);
+    check(accepted, "that consistency proof is accepted");
+}
+
 /* The ways to a difference at 1: by 12 links from entry 4,095, and by 12 from entry 2,049, to which
    11 links of the longer log lead. */
 static void measure_searches(void)
@@ -264,6 +312,7 @@ int main(void)
     measure("sha256 of 65,535 bytes", call_sha256);
     check(digest.number == 0, "that digest is answered");
     measure_log_calls();
+    measure_rfc6962_calls();
     measure_searches();
     printf("%d passed, %d failed\n", passed, failed);
     return failed == 0 ? 0 : 1;

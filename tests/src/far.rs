@@ -1,4 +1,5 @@
-//! Logs with a last entry about 2^32 bytes from their start.
+//! Logs with a last entry about 2^32 bytes from their start, and other bytes of which there are
+//! more than 2^32.
 
 use crate::model::Log;
 use crate::random::Random;
@@ -37,4 +38,11 @@ impl Far {
         self.buffer[offset..end].copy_from_slice(&self.last);
         end
     }
+}
+
+/// These bytes, and 2^32 zero bytes behind them, which stay for as long as the process lasts.
+pub fn far_longer(bytes: &[u8]) -> &'static [u8] {
+    let longer = pages::zeros_to_write(LIMIT + bytes.len());
+    longer[..bytes.len()].copy_from_slice(bytes);
+    longer
 }

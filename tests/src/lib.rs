@@ -1,9 +1,9 @@
 //! What the tests and the benchmark stand on: the model that the library is held to, the library
 //! behind safe wrappers and the answers to expect of it, the plain Rust that it is measured beside,
 //! values and logs to try, bent bytes, forged logs and their links, long logs with one fault on a way,
-//! logs of over 2^32 bytes, pairs of logs and what a search answers of them, claims for a proof check,
-//! what is refused, random cases of all calls, memory to lend, repeatable random bytes, very long
-//! messages, hex digits, and a clock.
+//! logs of over 2^32 bytes, pairs of logs and what a search answers of them, claims for the checks,
+//! the calls of the RFC 6962 edition that write, what is refused, random cases of all calls, memory to
+//! lend, repeatable random bytes, very long messages, hex digits, and a clock.
 
 /// Documents 01 and 02 in plain Rust, and RFC 6962 where 02 names it, made to be seen right and not
 /// to be fast.
@@ -37,6 +37,7 @@ pub mod cases {
     mod answer;
     mod call;
     mod claim;
+    mod consistency;
     mod file;
     mod lent;
     mod log;
@@ -57,12 +58,14 @@ pub mod cases {
 pub mod answers;
 pub mod bent;
 pub mod claims;
+pub mod consistency;
 pub mod far;
 pub mod forged;
 pub mod hex;
 pub mod links;
 pub mod logs;
 pub mod long;
+pub mod makers;
 pub mod memory;
 pub mod pages;
 pub mod pairs;

@@ -104,6 +104,41 @@ extern "C" {
         second: *const u8,
         second_len: usize,
     ) -> Piece;
+    fn ringlog_rfc6962_root(log: *const u8, log_len: usize) -> Digest;
+    fn ringlog_rfc6962_path(
+        log: *const u8,
+        log_len: usize,
+        index: usize,
+        output: *mut u8,
+        output_len: usize,
+    ) -> Count;
+    fn ringlog_rfc6962_check_path(
+        count: usize,
+        index: usize,
+        item: *const u8,
+        item_len: usize,
+        path: *const u8,
+        path_len: usize,
+        root: *const u8,
+        root_len: usize,
+    ) -> bool;
+    fn ringlog_rfc6962_consistency(
+        log: *const u8,
+        log_len: usize,
+        old_count: usize,
+        output: *mut u8,
+        output_len: usize,
+    ) -> Count;
+    fn ringlog_rfc6962_check_consistency(
+        old_count: usize,
+        new_count: usize,
+        proof: *const u8,
+        proof_len: usize,
+        old_root: *const u8,
+        old_root_len: usize,
+        new_root: *const u8,
+        new_root_len: usize,
+    ) -> bool;
 }
 
 // SAFETY, of each call below: a slice's pointer is not null, also for an empty slice, and is good
@@ -160,4 +195,50 @@ pub fn search(first: &[u8], second: &[u8]) -> Split {
 pub fn repair(first: &[u8], second: &[u8]) -> Piece {
     let (second, second_len) = (second.as_ptr(), second.len());
     unsafe { ringlog_repair(first.as_ptr(), first.len(), second, second_len) }
+}
+
+pub fn rfc6962_root(log: &[u8]) -> Digest {
+    unsafe { ringlog_rfc6962_root(log.as_ptr(), log.len()) }
+}
+
+pub fn rfc6962_path(log: &[u8], index: usize, output: &mut [u8]) -> Count {
+    let (start, len) = (output.as_mut_ptr(), output.len());
+    unsafe { ringlog_rfc6962_path(log.as_ptr(), log.len(), index, start, len) }
+}
+
+pub fn rfc6962_check_path(
+    count: usize,
+    index: usize,
+    item: &[u8],
+    path: &[u8],
+    root: &[u8],
+) -> bool {
+    let (item, item_len) = (item.as_ptr(), item.len());
+    let (path, path_len) = (path.as_ptr(), path.len());
+    let (root, root_len) = (root.as_ptr(), root.len());
+    unsafe {
+        ringlog_rfc6962_check_path(count, index, item, item_len, path, path_len, root, root_len)
+    }
+}
+
+pub fn rfc6962_consistency(log: &[u8], old_count: usize, output: &mut [u8]) -> Count {
+    let (start, len) = (output.as_mut_ptr(), output.len());
+    unsafe { ringlog_rfc6962_consistency(log.as_ptr(), log.len(), old_count, start, len) }
+}
+
+pub fn rfc6962_check_consistency(
+    old_count: usize,
+    new_count: usize,
+    proof: &[u8],
+    old_root: &[u8],
+    new_root: &[u8],
+) -> bool {
+    let (proof, proof_len) = (proof.as_ptr(), proof.len());
+    let (old_root, old_len) = (old_root.as_ptr(), old_root.len());
+    let (new_root, new_len) = (new_root.as_ptr(), new_root.len());
+    unsafe {
+        ringlog_rfc6962_check_consistency(
+            old_count, new_count, proof, proof_len, old_root, old_len, new_root, new_len,
+        )
+    }
 }

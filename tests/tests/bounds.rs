@@ -10,8 +10,8 @@ use std::collections::HashSet;
 const SEED: u64 = 1;
 const CASES: u64 = 2_000;
 
-/// How many slices the ten calls are lent.
-const SLICES: usize = 17;
+/// How many slices the fifteen calls are lent.
+const SLICES: usize = 28;
 
 /// More than any case lends in one slice.
 const ROOM: usize = 3 << 20;

@@ -1,7 +1,7 @@
 //! The library's proof check: yes for the proofs of document 01's trees, no for everything else,
 //! and on any numbers and bytes what the model answers.
 
-use ringlog_tests::claims::Claim;
+use ringlog_tests::claims::{Claim, Edition};
 use ringlog_tests::logs::{self, LONG, MASKS};
 use ringlog_tests::model::tree::leaf_digest;
 use ringlog_tests::model::{item, Log};
@@ -103,6 +103,7 @@ fn a_proof_of_another_length_is_refused() {
             item,
             proof,
             root,
+            ..
         } = &claim;
         for len in 0..proof.len() {
             let torn = ringlog::check_proof(*n, *i, item, &proof[..len], root);
@@ -270,6 +271,7 @@ fn index_0_and_indexes_above_n_are_refused_whatever_the_length_of_the_proof() {
             for hops in 0..=14 {
                 let item = logs::value(&mut random);
                 let claim = Claim {
+                    edition: Edition::First,
                     n,
                     i,
                     root: leaf_digest(&item).to_vec(),

@@ -109,8 +109,8 @@ fn a_long_log_that_does_not_end_with_an_entry_is_refused_with_6() {
     }
 }
 
-/// Random bytes, and in them the entries that are met: no call asks for anything else, and an audit
-/// does.
+/// Random bytes, and in them the entries that are met: no call of the first edition asks for
+/// anything else, and an audit does, also where another call begins with it.
 #[test]
 fn what_is_beside_the_way_to_an_entry_of_a_long_log_does_not_matter() {
     let mut random = Random::new(1);
@@ -135,6 +135,12 @@ fn what_is_beside_the_way_to_an_entry_of_a_long_log_does_not_matter() {
             let counted = ringlog::audit(&bytes);
             assert_eq!(counted, model::audit(&bytes).into(), "{i} of {n}");
             assert!(counted.entries < 10, "{i} of {n}");
+            let audited_first = [
+                ringlog::rfc6962_root(&bytes).number,
+                ringlog::rfc6962_path(&bytes, i, &mut proof).number,
+                ringlog::rfc6962_consistency(&bytes, i, &mut proof).number,
+            ];
+            assert_eq!(audited_first, [6; 3], "{i} of {n}");
         }
     }
 }

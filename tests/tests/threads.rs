@@ -5,6 +5,7 @@ use ringlog_tests::cases::{Answer, Case, Done};
 use ringlog_tests::logs::LONGEST_ENTRY;
 use ringlog_tests::long::{parted, whole};
 use ringlog_tests::model::inclusion::hops;
+use ringlog_tests::model::rfc6962_checks::proof_len;
 use ringlog_tests::ringlog::*;
 use std::sync::Barrier;
 use std::thread;
@@ -99,6 +100,45 @@ fn several_threads_may_read_the_same_log_at_once() {
         let item = whole.value(i * 111 + i / 2 % 2);
         let proof = &proofs[i - 1].1[..32 * hops(2_000, i * 111)];
         let accepted = check_proof(2_000, i * 111, item, proof, &stored);
+        nothing_written(Answer::Whether(accepted))
+    });
+}
+
+/// The calls of the RFC 6962 edition, on a shorter log, since they audit it.
+#[test]
+fn several_threads_may_ask_for_rfc_6962_of_the_same_log_at_once() {
+    let whole = whole();
+    let log = whole.beginning(100);
+    let stored = rfc6962_root(log).digest;
+    assert_as_alone("rfc6962_root", &|i| {
+        nothing_written(Answer::Digest(rfc6962_root(whole.beginning(i * 5))))
+    });
+    let path = |i| {
+        let mut output = vec![0; 384];
+        let made = rfc6962_path(log, i * 6, &mut output);
+        (Answer::Count(made), output)
+    };
+    assert_as_alone("rfc6962_path", &path);
+    let paths: Vec<_> = (1..=2 * THREADS).map(path).collect();
+    assert_as_alone("rfc6962_check_path", &|i| {
+        // Every other thread asks for a value that is not there.
+        let item = whole.value(i * 6 + i / 2 % 2);
+        let path = &paths[i - 1].1[..32 * hops(100, i * 6)];
+        let accepted = rfc6962_check_path(100, i * 6, item, path, &stored);
+        nothing_written(Answer::Whether(accepted))
+    });
+    let consistency = |i| {
+        let mut output = vec![0; 416];
+        let made = rfc6962_consistency(log, i * 6, &mut output);
+        (Answer::Count(made), output)
+    };
+    assert_as_alone("rfc6962_consistency", &consistency);
+    let proofs: Vec<_> = (1..=2 * THREADS).map(consistency).collect();
+    assert_as_alone("rfc6962_check_consistency", &|i| {
+        // Every other thread has the root of a value more.
+        let old_root = rfc6962_root(whole.beginning(i * 6 + i / 2 % 2)).digest;
+        let proof = &proofs[i - 1].1[..32 * proof_len(i * 6, 100)];
+        let accepted = rfc6962_check_consistency(i * 6, 100, proof, &old_root, &stored);
         nothing_written(Answer::Whether(accepted))
     });
 }

@@ -119,6 +119,19 @@ fn by_library(call: Call, lent: &mut [&mut [u8]], numbers: &[usize]) -> Answer {
         (Call::Cut, [buffer], [used, count]) => Answer::Count(cut(buffer, *used, *count)),
         (Call::Search, [first, second], []) => Answer::Split(search(first, second)),
         (Call::Repair, [first, second], []) => Answer::Piece(repair(first, second)),
+        (Call::Rfc6962Root, [log], []) => Answer::Digest(rfc6962_root(log)),
+        (Call::Rfc6962Path, [log, output], [index]) => {
+            Answer::Count(rfc6962_path(log, *index, output))
+        }
+        (Call::Rfc6962CheckPath, [item, path, root], [count, index]) => {
+            Answer::Whether(rfc6962_check_path(*count, *index, item, path, root))
+        }
+        (Call::Rfc6962Consistency, [log, output], [m]) => {
+            Answer::Count(rfc6962_consistency(log, *m, output))
+        }
+        (Call::Rfc6962CheckConsistency, [proof, old_root, new_root], [m, n]) => {
+            Answer::Whether(rfc6962_check_consistency(*m, *n, proof, old_root, new_root))
+        }
         _ => panic!("{call:?} is lent something else"),
     }
 }
@@ -141,6 +154,19 @@ fn by_model(call: Call, lent: &mut [&mut [u8]], numbers: &[usize]) -> Answer {
         (Call::Cut, [buffer], [used, count]) => Answer::Count(cut(buffer, *used, *count).into()),
         (Call::Search, [first, second], []) => Answer::Split(search(first, second).into()),
         (Call::Repair, [first, second], []) => Answer::Piece(repair(first, second).into()),
+        (Call::Rfc6962Root, [log], []) => Answer::Digest(rfc6962_root(log).into()),
+        (Call::Rfc6962Path, [log, output], [index]) => {
+            Answer::Count(rfc6962_path(log, *index, output).into())
+        }
+        (Call::Rfc6962CheckPath, [item, path, root], [count, index]) => {
+            Answer::Whether(rfc6962_check_path(*count, *index, item, path, root))
+        }
+        (Call::Rfc6962Consistency, [log, output], [m]) => {
+            Answer::Count(rfc6962_consistency(log, *m, output).into())
+        }
+        (Call::Rfc6962CheckConsistency, [proof, old_root, new_root], [m, n]) => {
+            Answer::Whether(rfc6962_check_consistency(*m, *n, proof, old_root, new_root))
+        }
         _ => panic!("{call:?} is lent something else"),
     }
 }

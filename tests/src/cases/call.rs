@@ -16,10 +16,15 @@ pub enum Call {
     Cut,
     Search,
     Repair,
+    Rfc6962Root,
+    Rfc6962Path,
+    Rfc6962CheckPath,
+    Rfc6962Consistency,
+    Rfc6962CheckConsistency,
 }
 
 impl Call {
-    pub const ALL: [Call; 10] = [
+    pub const ALL: [Call; 15] = [
         Call::Sha256,
         Call::Append,
         Call::Audit,
@@ -30,6 +35,11 @@ impl Call {
         Call::Cut,
         Call::Search,
         Call::Repair,
+        Call::Rfc6962Root,
+        Call::Rfc6962Path,
+        Call::Rfc6962CheckPath,
+        Call::Rfc6962Consistency,
+        Call::Rfc6962CheckConsistency,
     ];
 
     pub fn name(self) -> &'static str {
@@ -60,6 +70,19 @@ impl Call {
             Call::Cut => ("cut", &["buffer"], &["used", "count"]),
             Call::Search => ("search", &["first", "second"], &[]),
             Call::Repair => ("repair", &["first", "second"], &[]),
+            Call::Rfc6962Root => ("rfc6962_root", &["log"], &[]),
+            Call::Rfc6962Path => ("rfc6962_path", &["log", "output"], &["index"]),
+            Call::Rfc6962CheckPath => (
+                "rfc6962_check_path",
+                &["item", "path", "root"],
+                &["count", "index"],
+            ),
+            Call::Rfc6962Consistency => ("rfc6962_consistency", &["log", "output"], &["old_count"]),
+            Call::Rfc6962CheckConsistency => (
+                "rfc6962_check_consistency",
+                &["proof", "old_root", "new_root"],
+                &["old_count", "new_count"],
+            ),
         }
     }
 }

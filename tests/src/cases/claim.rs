@@ -1,18 +1,19 @@
-//! What a proof check is lent: claims that are true, and claims with one thing wrong.
+//! What a proof check, or the path check of the RFC 6962 edition, is lent: claims that are true,
+//! and claims with one thing wrong.
 
-use super::lent::{bend, item, near, spoil_root};
+use super::lent::{bend, count, item, near, spoil_length, spoil_root};
 use super::long;
-use crate::claims::Claim;
+use crate::claims::{Claim, Edition};
 use crate::logs;
 use crate::model::entry::MOST;
 use crate::random::Random;
 
 /// A claim that holds in about half of the cases.
-pub fn any(random: &mut Random) -> Claim {
+pub fn any(edition: Edition, random: &mut Random) -> Claim {
     let mut claim = match random.up_to(15) {
-        0 => long::claim(random),
-        1..=4 => of_log(random),
-        _ => folded(random),
+        0 => long::claim(edition, random),
+        1..=4 => of_log(edition, random),
+        _ => folded(edition, random),
     };
     if random.up_to(1) == 0 {
         spoil(&mut claim, random);
@@ -21,26 +22,26 @@ pub fn any(random: &mut Random) -> Claim {
 }
 
 /// The claim of a value of a log.
-fn of_log(random: &mut Random) -> Claim {
+fn of_log(edition: Edition, random: &mut Random) -> Claim {
     let n = 1 + random.up_to(39);
     let i = 1 + random.up_to(n - 1);
-    Claim::of(&mut logs::log(n, random), i)
+    let mut log = logs::log(n, random);
+    match edition {
+        Edition::First => Claim::of(&mut log, i),
+        Edition::Rfc6962 => Claim::rfc6962(log.values(), i),
+    }
 }
 
 /// A claim of any siblings, with the root that the item folds to. Now and then there are more values
 /// than a log can have, or the item is no value.
-fn folded(random: &mut Random) -> Claim {
-    let n = match random.up_to(11) {
-        0 => *random.one_of(&[1, MOST - 1, MOST, MOST + 1, 2 * MOST, 1 << 20]),
-        1..=5 => 1 + random.up_to(MOST - 1),
-        _ => 1 + random.up_to(20),
-    };
+fn folded(edition: Edition, random: &mut Random) -> Claim {
+    let n = count(random);
     let i = match random.up_to(3) {
         0 => *random.one_of(&[1, n]),
         _ => 1 + random.up_to(n - 1),
     };
     let item = item(random);
-    Claim::folded(n, i, item, random)
+    Claim::folded_in(edition, (n, i), item, random)
 }
 
 /// Changes one thing, in most cases so that the claim is false.
@@ -58,17 +59,6 @@ fn spoil(claim: &mut Claim, random: &mut Random) {
         9 => go_on_above(claim, random),
         _ => spoil_root(&mut claim.root, random),
     }
-}
-
-/// Makes a proof longer or shorter.
-fn spoil_length(proof: &mut Vec<u8>, random: &mut Random) {
-    let len = proof.len();
-    let by = *random.one_of(&[1, 31, 32, 33, len]);
-    let len = match random.up_to(1) {
-        0 => len.saturating_sub(by),
-        _ => len + by,
-    };
-    proof.resize(len, 0);
 }
 
 /// Adds one sibling to the proof, and makes the root the one above it.

@@ -5,6 +5,7 @@ use crate::forged::{self, folded_root};
 use crate::links::{self, RUNNING_OUT};
 use crate::logs::{self, MASKS};
 use crate::model;
+use crate::model::entry::MOST;
 use crate::random::Random;
 use crate::refused::{self, FAR_ABOVE};
 
@@ -66,6 +67,27 @@ pub fn spoil_root(root: &mut Vec<u8>, random: &mut Random) {
     match random.up_to(1) {
         0 => bend(root, random),
         _ => root.resize(*random.one_of(&[0, 1, 31, 33, 64, 288]), 0),
+    }
+}
+
+/// Makes a proof longer or shorter.
+pub fn spoil_length(proof: &mut Vec<u8>, random: &mut Random) {
+    let len = proof.len();
+    let by = *random.one_of(&[1, 31, 32, 33, len]);
+    let len = match random.up_to(1) {
+        0 => len.saturating_sub(by),
+        _ => len + by,
+    };
+    proof.resize(len, 0);
+}
+
+/// How many values a check is told of: few, any number that a log can have, now and then one at the
+/// limit or above it.
+pub fn count(random: &mut Random) -> usize {
+    match random.up_to(11) {
+        0 => *random.one_of(&[1, MOST - 1, MOST, MOST + 1, 2 * MOST, 1 << 20]),
+        1..=5 => 1 + random.up_to(MOST - 1),
+        _ => 1 + random.up_to(20),
     }
 }
 

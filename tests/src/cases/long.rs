@@ -2,7 +2,8 @@
 //! the end of the log.
 
 use super::lent::bend;
-use crate::claims::Claim;
+use crate::claims::{Claim, Edition};
+use crate::consistency::Consistency;
 use crate::logs::LONG;
 use crate::long::{parted, whole, PLACES};
 use crate::model::entry::MOST;
@@ -63,19 +64,30 @@ pub fn pair(random: &mut Random) -> (Vec<u8>, Vec<u8>) {
 }
 
 /// The claim of a value of a log.
-pub fn claim(random: &mut Random) -> Claim {
+pub fn claim(edition: Edition, random: &mut Random) -> Claim {
     let n = count(random).min(MOST);
     let i = index(n, random);
+    if edition == Edition::Rfc6962 {
+        return Claim::rfc6962(&whole().values()[..n], i);
+    }
     let log = whole().beginning(n);
     let mut proof = vec![0; 32 * hops(n, i)];
     model::proof(log, i, &mut proof).expect("a proof");
     Claim {
+        edition,
         n,
         i,
         item: whole().value(i).to_vec(),
         proof,
         root: model::root(log).expect("a root").to_vec(),
     }
+}
+
+/// The claim that a log goes on from its first values.
+pub fn consistency(random: &mut Random) -> Consistency {
+    let n = count(random).min(MOST);
+    let m = index(n, random);
+    Consistency::of(&whole().values()[..n], m)
 }
 
 /// The log of the first n values, with one fault or none.

@@ -41,14 +41,14 @@ impl Met {
 /// A table of the calls and their refusals by number, and then the outcomes that share one.
 impl Display for Met {
     fn fmt(&self, f: &mut Formatter) -> fmt::Result {
-        write!(f, "{:11} {:>8} {:>8}", "call", "cases", "answered")?;
+        write!(f, "{:25} {:>8} {:>8}", "call", "cases", "answered")?;
         (1..=8).try_for_each(|number| write!(f, " {number:>6}"))?;
         for call in Call::ALL {
             let [answered, refused @ ..] =
                 [0, 1, 2, 3, 4, 5, 6, 7, 8].map(|n| self.with_number(call, n));
             let answered = answered.unwrap_or(0);
             let cases = answered + refused.iter().flatten().sum::<usize>();
-            write!(f, "\n{:11} {cases:>8} {answered:>8}", call.name())?;
+            write!(f, "\n{:25} {cases:>8} {answered:>8}", call.name())?;
             for times in refused {
                 let times = times.map_or_else(|| "-".to_string(), |times| times.to_string());
                 write!(f, " {times:>6}")?;

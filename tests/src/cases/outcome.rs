@@ -5,6 +5,8 @@ use crate::model;
 use crate::model::entry::MOST;
 use crate::model::inclusion::hops;
 use crate::model::item::is_value;
+use crate::model::rfc6962_checks::{proof_len, roots_by_proof};
+use crate::splits::count;
 
 /// What comes of a case: the number of the refusal, or 0, and which of those with that number.
 pub type Outcome = (u32, &'static str);
@@ -33,7 +35,7 @@ pub fn outcomes(call: Call) -> &'static [Outcome] {
             (6, "step"),
             (7, "step"),
         ],
-        Call::CheckProof => &[
+        Call::CheckProof | Call::Rfc6962CheckPath => &[
             (0, "yes"),
             (0, "no: index"),
             (0, "no: count"),
@@ -68,6 +70,34 @@ pub fn outcomes(call: Call) -> &'static [Outcome] {
             (7, "both"),
         ],
         Call::Repair => &[(0, "of first"), (0, "of second"), (0, "search refused")],
+        Call::Rfc6962Root => &[
+            (0, "of an empty log"),
+            (0, "of a log"),
+            (6, "opening"),
+            (6, "audit"),
+        ],
+        Call::Rfc6962Path => &[(0, ""), (6, "opening"), (6, "audit"), (2, ""), (8, "")],
+        Call::Rfc6962Consistency => &[
+            (0, "equal counts"),
+            (0, "power of two"),
+            (0, "other count"),
+            (6, "opening"),
+            (6, "audit"),
+            (2, ""),
+            (8, ""),
+        ],
+        Call::Rfc6962CheckConsistency => &[
+            (0, "yes: equal counts"),
+            (0, "yes: power of two"),
+            (0, "yes: other count"),
+            (0, "no: old count"),
+            (0, "no: new count"),
+            (0, "no: length of old root"),
+            (0, "no: length of new root"),
+            (0, "no: length of proof"),
+            (0, "no: old root"),
+            (0, "no: new root"),
+        ],
     }
 }
 
@@ -86,18 +116,38 @@ impl Case {
                 _ => "a beginning",
             },
             (Call::Root, Answer::Digest(digest), [log], _) => match digest.number {
-                0 if log.is_empty() => "of an empty log",
-                0 => "of a log",
+                0 => of_a_log(log),
                 _ => "",
+            },
+            (Call::Rfc6962Root, Answer::Digest(digest), [log], _) => match digest.number {
+                0 => of_a_log(log),
+                number => opening_or_audit(number, log),
+            },
+            (Call::Rfc6962Path, Answer::Count(count), [log, _], _) => {
+                opening_or_audit(count.number, log)
+            }
+            (Call::Rfc6962Consistency, Answer::Count(made), [log, _], [m]) => match made.number {
+                0 => from_old(*m, count(log)),
+                number => opening_or_audit(number, log),
             },
             (Call::Value, Answer::Part(part), [log, _], [i]) => match part.number {
                 7 if model::end_of_entry(log, *i).is_ok() => "fold",
                 number => opening_or_step(number, log),
             },
             (Call::Proof, Answer::Count(count), [log, _], _) => opening_or_step(count.number, log),
-            (Call::CheckProof, Answer::Whether(true), _, _) => "yes",
-            (Call::CheckProof, _, [item, proof, root], [n, i]) => {
+            (Call::CheckProof | Call::Rfc6962CheckPath, Answer::Whether(true), _, _) => "yes",
+            (Call::CheckProof | Call::Rfc6962CheckPath, _, [item, proof, root], [n, i]) => {
                 why_not(*n, *i, item, proof, root)
+            }
+            (Call::Rfc6962CheckConsistency, Answer::Whether(true), _, [m, n]) => {
+                match from_old(*m, *n) {
+                    "equal counts" => "yes: equal counts",
+                    "power of two" => "yes: power of two",
+                    _ => "yes: other count",
+                }
+            }
+            (Call::Rfc6962CheckConsistency, _, [proof, old_root, new_root], [m, n]) => {
+                why_not_consistent(*m, *n, proof, old_root, new_root)
             }
             (Call::Cut, Answer::Count(count), [buffer], [used, d]) => match count.number {
                 0 if *d == 0 => "to 0",
@@ -123,6 +173,24 @@ impl Case {
     }
 }
 
+fn of_a_log(log: &[u8]) -> &'static str {
+    match log {
+        [] => "of an empty log",
+        _ => "of a log",
+    }
+}
+
+/// Which consistency proof it is that leads from m values to n.
+fn from_old(m: usize, n: usize) -> &'static str {
+    if m == n {
+        "equal counts"
+    } else if m.is_power_of_two() {
+        "power of two"
+    } else {
+        "other count"
+    }
+}
+
 fn opens(log: &[u8]) -> bool {
     model::root(log).is_ok()
 }
@@ -132,6 +200,16 @@ fn opening_or_step(number: u32, log: &[u8]) -> &'static str {
     match number {
         6 if !opens(log) => "opening",
         6 | 7 => "step",
+        _ => "",
+    }
+}
+
+/// Whether a refusal with 6 was given to a log that does not open, or to one that opens and is not well
+/// formed.
+fn opening_or_audit(number: u32, log: &[u8]) -> &'static str {
+    match number {
+        6 if !opens(log) => "opening",
+        6 => "audit",
         _ => "",
     }
 }
@@ -151,4 +229,36 @@ fn why_not(n: usize, i: usize, item: &[u8], proof: &[u8], root: &[u8]) -> &'stat
     } else {
         "no: fold"
     }
+}
+
+/// The first condition of a consistency check that does not hold, in this order.
+fn why_not_consistent(
+    m: usize,
+    n: usize,
+    proof: &[u8],
+    old_root: &[u8],
+    new_root: &[u8],
+) -> &'static str {
+    if m == 0 || m > n {
+        "no: old count"
+    } else if n > MOST {
+        "no: new count"
+    } else if old_root.len() != 32 {
+        "no: length of old root"
+    } else if new_root.len() != 32 {
+        "no: length of new root"
+    } else if proof.len() != 32 * proof_len(m, n) {
+        "no: length of proof"
+    } else if !old_root_comes_out(m, n, proof, old_root) {
+        "no: old root"
+    } else {
+        "no: new root"
+    }
+}
+
+fn old_root_comes_out(m: usize, n: usize, proof: &[u8], old_root: &[u8]) -> bool {
+    let digest = |bytes: &[u8]| bytes.try_into().expect("32 bytes");
+    let digests: Vec<_> = proof.chunks(32).map(digest).collect();
+    let roots = roots_by_proof(m, n, &digest(old_root), &digests);
+    roots.map_or(false, |(old, _)| old == old_root)
 }
