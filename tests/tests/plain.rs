@@ -1,12 +1,14 @@
 //! The plain Rust that the benchmark measures against the model: SHA-256, append and audit that make
-//! each entry from the strata before it, and the search.
+//! each entry from the strata before it, the search, and the RFC 6962 edition.
 
 use ringlog_tests::bent::each_bent;
+use ringlog_tests::claims::{Claim, Edition};
+use ringlog_tests::consistency::Consistency;
 use ringlog_tests::logs::{self, LONGEST_ENTRY, LONGEST_LOG};
 use ringlog_tests::model::Log;
 use ringlog_tests::pairs::{self, each_parted, values, with_others};
 use ringlog_tests::random::Random;
-use ringlog_tests::{links, model, plain, refused};
+use ringlog_tests::{forged, links, long, model, plain, refused};
 
 #[test]
 fn digests_agree() {
@@ -200,4 +202,103 @@ fn searches_of_what_does_not_open_agree() {
             assert_searches_agree(bytes, two.beginning(1), case);
         }
     }
+}
+
+/// The root, and for a number the path and the consistency proof into an output of so many bytes.
+fn assert_rfc6962_agrees(log: &[u8], number: usize, len: usize, case: impl Fn() -> String) {
+    let root = plain::rfc6962::root(log);
+    assert_eq!(root, model::rfc6962_root(log), "{}", case());
+    let (mut one, mut other) = (vec![0x5a; len], vec![0x5a; len]);
+    let path = plain::rfc6962::path(log, number, &mut one);
+    let expected = model::rfc6962_path(log, number, &mut other);
+    assert_eq!((path, &one), (expected, &other), "{}", case());
+    let proof = plain::rfc6962::consistency(log, number, &mut one);
+    let expected = model::rfc6962_consistency(log, number, &mut other);
+    assert_eq!((proof, &one), (expected, &other), "{}", case());
+}
+
+#[test]
+fn roots_paths_and_consistency_proofs_agree() {
+    let mut random = Random::new(13);
+    let log = logs::log(40, &mut random);
+    for n in 0..=40 {
+        for number in 0..=n + 1 {
+            let case = || format!("{number} of {n}");
+            assert_rfc6962_agrees(log.beginning(n), number, 416, case);
+        }
+    }
+    for n in [1_000, 4_095, 4_096, 4_097] {
+        let log = long::whole().beginning(n);
+        assert_rfc6962_agrees(log, 3, 416, || format!("3 of {n}"));
+    }
+    for round in 0..2_000 {
+        let log = forged::any(12, &mut random);
+        let number = forged::index(&log, &mut random);
+        let len = random.up_to(200);
+        assert_rfc6962_agrees(&log, number, len, || format!("round {round}: {log:02x?}"));
+    }
+}
+
+/// RFC 9162 writes the checks in another way than the model, which goes by RFC 6962's recursions:
+/// also what holds of no log is told alike by both.
+#[test]
+fn path_checks_agree() {
+    let mut random = Random::new(14);
+    let mut met = [0; 2];
+    for round in 0..20_000 {
+        let n = 1 + random.up_to(if round % 4 == 0 { 4_095 } else { 40 });
+        let i = 1 + random.up_to(n - 1);
+        let item = logs::value(&mut random);
+        let mut claim = Claim::folded_in(Edition::Rfc6962, (n, i), item, &mut random);
+        match random.up_to(7) {
+            0 => claim.n = random.up_to(41),
+            1 => claim.i = random.up_to(41),
+            2 => claim.n = n + random.up_to(10),
+            3 => claim.proof.resize(32 * random.up_to(13), 0),
+            4 => claim.root.resize(random.up_to(33), 0),
+            _ => (),
+        }
+        let Claim { n, i, .. } = claim;
+        let (item, path, root) = (&claim.item, &claim.proof, &claim.root);
+        let expected = model::rfc6962_check_path(n, i, item, path, root);
+        let answer = plain::rfc6962::check_path(n, i, item, path, root);
+        assert_eq!(answer, expected, "{claim:02x?}");
+        met[usize::from(answer)] += 1;
+    }
+    assert!(met.iter().all(|&times| times > 2_000), "{met:?}");
+}
+
+#[test]
+fn consistency_checks_agree() {
+    let mut random = Random::new(15);
+    let mut met = [0; 2];
+    let mut assert_agrees = |claim: &Consistency| {
+        let Consistency { m, n, .. } = *claim;
+        let (proof, old, new) = (&claim.proof, &claim.old_root, &claim.new_root);
+        let expected = model::rfc6962_check_consistency(m, n, proof, old, new);
+        let answer = plain::rfc6962::check_consistency(m, n, proof, old, new);
+        assert_eq!(answer, expected, "{claim:02x?}");
+        met[usize::from(answer)] += 1;
+    };
+    for n in 1..=70 {
+        for m in 1..=n {
+            assert_agrees(&Consistency::folded(m, n, &mut random));
+        }
+    }
+    for round in 0..20_000 {
+        let n = 1 + random.up_to(if round % 4 == 0 { 4_095 } else { 40 });
+        let m = 1 + random.up_to(n - 1);
+        let mut claim = Consistency::folded(m, n, &mut random);
+        match random.up_to(7) {
+            0 => claim.n = random.up_to(41),
+            1 => claim.m = random.up_to(41),
+            2 => claim.n = n + random.up_to(10),
+            3 => claim.proof.resize(32 * random.up_to(13), 0),
+            4 => claim.old_root.resize(random.up_to(33), 0),
+            5 => claim.new_root = claim.old_root.clone(),
+            _ => (),
+        }
+        assert_agrees(&claim);
+    }
+    assert!(met.iter().all(|&times| times > 2_000), "{met:?}");
 }

@@ -1,6 +1,6 @@
-//! What README shows of time, stack and size, in one run: the time of each call, beside plain Rust's for
-//! SHA-256, append, audit and search; the stack of each call; the size of the library; and the time of
-//! the gate by crate. It prints Markdown.
+//! What README shows of time, stack and size, in one run: the time of each call, beside plain
+//! Rust's for SHA-256, append, audit, search and the RFC 6962 edition; the stack of each call; the
+//! size of the library; and the time of the gate by crate. It prints Markdown.
 //!
 //! The time of a call is the processor's: an audit of a long log takes longer than the system lets a
 //! process run at a stretch where others want the machine.
@@ -13,6 +13,7 @@ mod gate;
 mod library;
 mod machine;
 mod measure;
+mod rfc6962;
 mod stack;
 mod text;
 mod times;
@@ -28,7 +29,7 @@ The time is the processor's.";
 const PAINTED: &str = "\
 Each call runs on a painted stack of its own (tests/c/stack_use.c). Cut, value and proof go the longest
 way, to entry 1. The logs of a search differ there; with 2,049 taps in the second, 24 entries of the
-first are read.";
+first are read. Path and consistency proof are the longest ones.";
 
 const SIDE_BY_SIDE: &str = "\
 rt proves crates, and tries edits, side by side on the machine's cores, so that the sums can be above the
@@ -54,7 +55,9 @@ fn print_times() {
     println!("{}", times.table());
     println!("{}", times.search_table());
     println!("{}", times.other_table());
-    println!("{}", times.compressions());
+    println!("{}\n", times.compressions());
+    println!("{}", times.rfc6962_table());
+    println!("{}", times.rfc6962_compressions());
 }
 
 fn main() {
