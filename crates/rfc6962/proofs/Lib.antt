@@ -6,6 +6,7 @@ pub mod Checks
 pub mod ConsistencyForms
 pub mod Consistent
 pub mod CountForms
+pub mod CountFormula
 pub mod DigestForms
 pub mod Ends
 pub mod Examples

@@ -4,7 +4,8 @@ use mathlib.Core.Bool.{true}
 use mathlib.Core.List.{List, [], _∷_, _++_}
 use mathlib.Core.Logic.{_⊎_}
 use mathlib.Core.Path.{_≡_}
-use Prim.Native.Nat.{ℕ, _*_, _-_, _^_, _≤_, _<_}
+use Prim.Native.Nat.{ℕ, suc, _+_, _*_, _-_, _^_, _≤_, _<_}
+use lib.Count.{ones, trailingZeros}
 use lib.ListN.{length, getD, take, drop, replicate}
 use Rattle.sha256.specs.Fips180.{sha256}
 use Rattle.sha256.specs.Pick.{pick}
@@ -104,6 +105,13 @@ abbrev pub ProofLength : Type 0
 ProofLength =
     (pre : Rule) (vs : List (List ℕ)) (m : ℕ) → 1 ≤ m → m ≤ length vs → length vs ≤ 2 ^ maxHeight
     → length (proof pre m vs) ≡ 32 * digestCount m (length vs)
+
+-- for m < n these are hops(n,m) − trailing zeros of m, and one more where m is no power of two
+abbrev pub DigestFormula : Type 0
+DigestFormula =
+    (m n : ℕ) → 1 ≤ m → m < n → n ≤ 2 ^ maxHeight
+    → (ones m ≡ 1 → digestCount m n + trailingZeros 32 m ≡ hops n m)
+    × ((ones m ≡ 1 → ⊥) → digestCount m n + trailingZeros 32 m ≡ suc (hops n m))
 
 -- ---- the consistency check
 

@@ -42,7 +42,7 @@ hops-le x (suc p) t =
 -- ---- the moves below the last entry of a full subtree
 
 -- the entry at z ends the full subtree of height h that holds the leaf at t
-abbrev Full : ℕ → ℕ → ℕ → Type 0
+abbrev pub Full : ℕ → ℕ → ℕ → Type 0
 Full z t h = suc z ≡ suc (t / 2 ^ h) * 2 ^ h
 
 full-last : (z t h : ℕ) → Full z t h → t ≤ z
@@ -96,7 +96,7 @@ full-lefts z t (suc p) f =
     (λ d. rw (d, lt-ltb t (base z p) (full-before z t p f d)) (omega (arith, full-lefts (left z p) t p (full-left z t p f d))))
     (λ d. rw (d, le-ltb t (base z p) (full-after z t p f d)) (omega (arith, full-lefts z t p (full-right z t p f d)))))
 
-full-hops : (z t h : ℕ) → Full z t h → hopsFrom z h t ≡ h
+pub full-hops : (z t h : ℕ) → Full z t h → hopsFrom z h t ≡ h
 unfolding hopsFrom
 full-hops z t zero f = refl
 full-hops z t (suc p) f =
