@@ -60,3 +60,6 @@ path-is pre vs i first last few =
     let m : i - 1 - base x maxHeight ≡ i - 1 = omega arith in
     rw (m, run-whole vs x maxHeight (omega arith) z)
     at (path-from pre vs (i - 1) x maxHeight (length vs) (omega (arith, below-power (length vs))) (omega arith) (omega arith) (omega arith))
+
+pub path-layout : claims.PathLayout
+path-layout t = refl

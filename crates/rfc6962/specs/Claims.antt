@@ -15,7 +15,7 @@ use Rattle.slate.specs.Clash.{Clash}
 use Rattle.slate.specs.Digits.{maxHeight}
 use Rattle.slate.specs.Hashed.{ClashAmong}
 use Rattle.slate.specs.Moves.{hops}
-use Rattle.slate.specs.PartialTree.{cutDigests}
+use Rattle.slate.specs.PartialTree.{cutDigests, single}
 use Rattle.slate.specs.Path as slate
 use Rattle.slate.specs.Tree.{Rule, rfc6962, root}
 use Rattle.entry.specs.Log.{Values, WellFormed, log}
@@ -24,7 +24,7 @@ use Rattle.ringlog.specs.Reasons.{refuses}
 use Rattle.inclusion.specs.Check.{proofHolds}
 use Rattle.rfc6962.specs.Consistency.{consistencyHolds, digestCount, firstDigest, newRoot, oldRoot, omitted}
 use Rattle.rfc6962.specs.Hashed.{Hashing, newInputs}
-use Rattle.rfc6962.specs.Layouts.{apart}
+use Rattle.rfc6962.specs.Layouts.{apart, toward}
 use Rattle.rfc6962.specs.Prove.{consistencyOf, pathOf}
 use Rattle.rfc6962.specs.Rfc6962.{k, mth, path, proof}
 use Rattle.rfc6962.specs.Root.{rootAnswer}
@@ -92,6 +92,10 @@ abbrev pub PathIsPath : Type 0
 PathIsPath =
     (pre : Rule) (vs : List (List ℕ)) (i : ℕ) → 1 ≤ i → i ≤ length vs → length vs ≤ 2 ^ maxHeight
     → path pre (i - 1) vs ≡ slate.path pre vs i
+
+-- its digests are those of the subtrees outside one position, on the side of which they come first
+abbrev pub PathLayout : Type 0
+PathLayout = (t : ℕ) → toward t t ≡ single t
 
 -- PROOF(m, D[n]) is the digests of the subtrees on the way to the end of the first m values, without that of D[m] where it is omitted
 abbrev pub ProofIsCut : Type 0
