@@ -13,6 +13,7 @@ pub mod Examples
 pub mod FirstDigest
 pub mod Folds
 pub mod LayoutDigests
+pub mod LeftForms
 pub mod MakerForms
 pub mod Makers
 pub mod MthRoots
