@@ -6,7 +6,6 @@ use Prim.Native.Nat.{ℕ, suc, _+_, _-_, _≤_, _<_}
 use native.Mathlib.Omega.{arith}
 use borrow.Author.Tests.{le-leb, lt-leb, ne-eqb}
 use Rattle.slate.specs.Digits.{maxHeight}
-use Rattle.slate.proofs.Cases.{by-order}
 use Rattle.rfc6962.specs.Consistency.{digestCount, omitted, siblingCount}
 use Rattle.rfc6962.specs.Rfc6962.{k}
 use Rattle.rfc6962.proofs.SplitForms.{Fewer, fewer-next}
@@ -23,10 +22,6 @@ module _ {h m n : ℕ} (w : Fewer h m n) where
   unfolding siblingCount
   siblings-right o =
       ap (λ (f : ℕ). siblingCount f m n) (fewer-next w) ∙ rw (ne-eqb m n (λ e. omega (arith, w .less)), lt-leb m (k n) o)
-
-  -- there is one
-  pub siblings-some : 1 ≤ siblingCount h m n
-  siblings-some = by-order (k n) m (λ o. omega (arith, siblings-right o)) (λ o. omega (arith, siblings-left o))
 
   -- one more than on the side of the split on which the first m end
   module _ (s : ℕ) (e : s ≡ k n) (r : ℕ) where

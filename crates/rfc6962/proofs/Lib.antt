@@ -27,4 +27,5 @@ pub mod SplitForms
 pub mod Splits
 pub mod Subproofs
 pub mod TopForms
+pub mod WaySplits
 pub mod WholeForms

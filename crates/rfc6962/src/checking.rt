@@ -8,14 +8,14 @@ ghost use Rattle.inclusion.specs.Check.{proofHolds};
 ghost use Rattle.rfc6962.specs.Consistency.{consistencyHolds, digestCount, newFrom, newRoot, oldFrom, oldRoot, siblingCount};
 use crate::counts::digest_count;
 use crate::counts::is_omitted;
-use crate::counts::sibling_count;
-use crate::counts::split_size;
 use crate::tops::NODE_TAG;
 use entry::compare::same_bytes;
 use inclusion::proof_holds;
 use sha256::tagged::hash_tagged;
 use slate::digits::LIMIT;
 use slate::digits::MAX_HEIGHT;
+use slate::digits::base;
+use slate::digits::digit;
 use slate::index::is_index;
 use slate::rule::Rule;
 
@@ -33,14 +33,13 @@ struct Roots {
     new: [u8; 32],
 }
 
-// Both from the digest of the first m values and `count` siblings, of which the last one is that of
-// the first split. Internal: 1 ≤ m ≤ n ≤ 2^height, and so many siblings are on the way.
-fn roots_from(height: u32, m: u32, n: u32, digest: [u8; 32], siblings: &[u8], count: usize) -> Roots
-    requires { ⌜ height ≤ maxHeight ⌝ }
-    requires { ⌜ (1 ≤ m) × (m ≤ n) × (n ≤ 2 ^ height) ⌝ }
-    requires { ⌜ (count ≡ siblingCount height m n) × (32 * count ≤ length (now siblings)) ⌝ }
-    ensures { λ r. ⌜ r .old ≡ oldFrom rfc6962 height m n digest (now (siblings .entry)) ⌝ }
-    ensures { λ r. ⌜ r .new ≡ newFrom rfc6962 height m n digest (now (siblings .entry)) ⌝ }
+// Both from the digest of the first m values and the siblings, the one next to it first: from that
+// digest up, a height a turn. Internal: 1 ≤ m ≤ n ≤ 4,096, and a sibling is there for each split.
+fn roots_from(m: u32, n: u32, digest: [u8; 32], siblings: &[u8]) -> Roots
+    requires { ⌜ (1 ≤ m) × (m ≤ n) × (n ≤ 2 ^ maxHeight) ⌝ }
+    requires { ⌜ 32 * siblingCount maxHeight m n ≤ length (now siblings) ⌝ }
+    ensures { λ r. ⌜ r .old ≡ oldFrom rfc6962 maxHeight m n digest (now (siblings .entry)) ⌝ }
+    ensures { λ r. ⌜ r .new ≡ newFrom rfc6962 maxHeight m n digest (now (siblings .entry)) ⌝ }
 {
     if m == n {
         return Roots {
@@ -48,26 +47,31 @@ fn roots_from(height: u32, m: u32, n: u32, digest: [u8; 32], siblings: &[u8], co
             new: digest,
         };
     }
-    let size = split_size(n);
-    let below = count - 1;
-    let at = 32 * below;
-    let sibling = &siblings[at..at + 32];
-    if m <= size {
-        let inner = roots_from(height - 1, m, size, digest, siblings, below);
-        let old = inner.old;
-        let new = inner.new;
-        let over = hash_tagged(NODE_TAG, &new, sibling);
-        return Roots { old, new: over };
+    let last = n - 1;
+    let target = m - 1;
+    let mut old = digest;
+    let mut new = digest;
+    let mut at = 0;
+    for p in 0..MAX_HEIGHT {
+        if digit(target, p) == 0 {
+            // The subtree of height p has the last value too: nothing is right of it.
+            if base(target, p) == base(last, p) {
+                continue;
+            }
+            new = hash_tagged(NODE_TAG, &new, &siblings[at..at + 32]);
+            at += 32;
+            continue;
+        }
+        // The subtree of height p + 1 ends with the first m values: the digest is at least as high.
+        if base(m, p + 1) == m {
+            continue;
+        }
+        let sibling = &siblings[at..at + 32];
+        at += 32;
+        old = hash_tagged(NODE_TAG, sibling, &old);
+        new = hash_tagged(NODE_TAG, sibling, &new);
     }
-    let inner = roots_from(height - 1, m - size, n - size, digest, siblings, below);
-    let old = inner.old;
-    let new = inner.new;
-    let old_over = hash_tagged(NODE_TAG, sibling, &old);
-    let new_over = hash_tagged(NODE_TAG, sibling, &new);
-    Roots {
-        old: old_over,
-        new: new_over,
-    }
+    Roots { old, new }
 }
 
 // Both from a proof and, where it omits the digest of the first m values, from their lent root.
@@ -78,14 +82,13 @@ fn roots_of(m: u32, n: u32, proof: &[u8], old: &[u8]) -> Roots
     ensures { λ r. ⌜ r .old ≡ oldRoot rfc6962 m n (now (proof .entry)) (now (old .entry)) ⌝ }
     ensures { λ r. ⌜ r .new ≡ newRoot rfc6962 m n (now (proof .entry)) (now (old .entry)) ⌝ }
 {
-    let count = sibling_count(MAX_HEIGHT, m, n) as usize;
     let mut digest = [0u8; 32];
     if is_omitted(m, n) {
         bytes::copy(old, &mut digest);
-        return roots_from(MAX_HEIGHT, m, n, digest, proof, count);
+        return roots_from(m, n, digest, proof);
     }
     bytes::copy(&proof[..32], &mut digest);
-    roots_from(MAX_HEIGHT, m, n, digest, &proof[32..], count)
+    roots_from(m, n, digest, &proof[32..])
 }
 
 // Whether the proof shows that of n values with the root `new` the first m have the root `old`: all

@@ -17,7 +17,7 @@ fn split_height(n: u32) -> u32
 }
 
 // That power of two. Internal: 2 ≤ n ≤ 4,096.
-pub fn split_size(n: u32) -> u32
+fn split_size(n: u32) -> u32
     requires { ⌜ (2 ≤ n) × (n ≤ 2 ^ maxHeight) ⌝ }
     ensures { λ r. ⌜ r ≡ k n ⌝ }
 {
@@ -36,7 +36,7 @@ pub fn is_omitted(m: u32, n: u32) -> bool
 
 // How many siblings are on the way from n values to the first m of them, one for each split.
 // Internal: 1 ≤ m ≤ n ≤ 2^height.
-pub fn sibling_count(height: u32, m: u32, n: u32) -> u32
+fn sibling_count(height: u32, m: u32, n: u32) -> u32
     requires { ⌜ height ≤ maxHeight ⌝ }
     requires { ⌜ (1 ≤ m) × (m ≤ n) × (n ≤ 2 ^ height) ⌝ }
     ensures { λ r. ⌜ r ≡ siblingCount height m n ⌝ }
