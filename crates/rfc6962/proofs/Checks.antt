@@ -1,7 +1,7 @@
 -- The consistency check says yes exactly where both roots come out of the proof; from n to n values the proof is empty, and a yes means equal
 -- roots.
 -- Assumes nothing.
-use mathlib.Core.List.{List, [], _∷_}
+use mathlib.Core.List.{List, []}
 use mathlib.Core.Path.{_≡_, refl, sym, _∙_}
 use Prim.Native.Nat.{ℕ, _*_, _^_}
 use native.Mathlib.Omega.{arith}

@@ -13,12 +13,12 @@ use Rattle.rfc6962.proofs.SplitForms.{Fewer, fewer-next}
 -- ---- the siblings
 
 module _ {h m n : ℕ} (w : Fewer h m n) where
-  pub siblings-left : m ≤ k n → siblingCount h m n ≡ suc (siblingCount (h - 1) m (k n))
+  siblings-left : m ≤ k n → siblingCount h m n ≡ suc (siblingCount (h - 1) m (k n))
   unfolding siblingCount
   siblings-left o =
       ap (λ (f : ℕ). siblingCount f m n) (fewer-next w) ∙ rw (ne-eqb m n (λ e. omega (arith, w .less)), le-leb m (k n) o)
 
-  pub siblings-right : k n < m → siblingCount h m n ≡ suc (siblingCount (h - 1) (m - k n) (n - k n))
+  siblings-right : k n < m → siblingCount h m n ≡ suc (siblingCount (h - 1) (m - k n) (n - k n))
   unfolding siblingCount
   siblings-right o =
       ap (λ (f : ℕ). siblingCount f m n) (fewer-next w) ∙ rw (ne-eqb m n (λ e. omega (arith, w .less)), lt-leb m (k n) o)

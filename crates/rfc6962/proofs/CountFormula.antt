@@ -1,7 +1,7 @@
 -- How many digests a consistency proof has, by document 01's hops: on the way to value m the siblings come first, and then as many moves as m
 -- has trailing zeros, inside the full subtree that ends with m.
 -- Assumes nothing.
-use mathlib.Core.Path.{_≡_, refl, sym, ap, ap₂, _∙_}
+use mathlib.Core.Path.{_≡_, refl, sym, ap₂, _∙_}
 use Prim.Native.Nat.{ℕ, suc, _+_, _*_, _-_, _/_, _^_, _≤_, _<_}
 use native.Mathlib.Nat.{mul-div-cancel, mul-mod-left, suc-mul}
 use native.Mathlib.Omega.{arith}

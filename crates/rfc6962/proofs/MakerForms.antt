@@ -13,7 +13,7 @@ use Rattle.slate.specs.Moves.{hops}
 use Rattle.slate.specs.Tree.{rfc6962}
 use Rattle.entry.specs.Write.{writeAt}
 use Rattle.entry.specs.declared.Opened.the-variants as opened
-use Rattle.ringlog.specs.Answer.{Count, Outcome, counted, refusal, refused, written}
+use Rattle.ringlog.specs.Answer.{Count, Outcome, counted, refusal, written}
 use Rattle.ringlog.specs.Values.{valuesOf}
 use Rattle.rfc6962.specs.Consistency.{digestCount, omitted}
 use Rattle.rfc6962.specs.Layouts.{digestsUnder}

@@ -1,10 +1,10 @@
 -- The root of a log, as the code makes it.
 -- Assumes nothing.
 use mathlib.Core.List.{List, []}
-use mathlib.Core.Path.{_≡_, refl, sym, ap, _∙_}
+use mathlib.Core.Path.{_≡_, sym, ap, _∙_}
 use Prim.Native.Nat.{ℕ, _-_}
 use native.Mathlib.Omega.{arith}
-use lib.ListN.{length, replicate}
+use lib.ListN.{replicate}
 use Rattle.slate.specs.Bytes.{Bytes}
 use Rattle.slate.specs.Digits.{maxHeight}
 use Rattle.slate.specs.Tree.{rfc6962, top}

@@ -4,14 +4,11 @@ use mathlib.Core.Path.{_≡_, refl, ap}
 use Prim.Native.Nat.{ℕ, zero, suc, _-_, _^_, _≤_, _<_}
 use native.Mathlib.Omega.{arith}
 use borrow.Author.Tests.{eq-eqb}
-use lib.Dec.{eqb, leb}
 use Rattle.slate.specs.Digits.{base, digit, left, maxHeight}
 use Rattle.slate.specs.PartialTree.{cuts}
 use Rattle.slate.proofs.Bits.{no-left, whole-base}
-use Rattle.slate.proofs.Cases.{by-bool}
 use Rattle.rfc6962.specs.Consistency.{siblingCount}
 use Rattle.rfc6962.specs.Layouts.{apart}
-use Rattle.rfc6962.specs.Rfc6962.{k}
 use Rattle.rfc6962.proofs.Apart.{cuts-end, cuts-left, cuts-none, cuts-right}
 use Rattle.rfc6962.proofs.Ends.{goes-left, goes-right, left-full, not-end, to-end, upTo-left, upTo-right}
 use Rattle.rfc6962.proofs.Splits.{node-split, size, upTo}
