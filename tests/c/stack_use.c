@@ -16,8 +16,8 @@
 
 #define LIMIT 8192
 
-/* The most for a checked value, and for a proof check or a path check, whose fold is a loop: a fold
-   that took some stack for each height would be above. */
+/* The most for a checked value, and for the check of a proof, a path or a consistency proof, whose
+   fold is a loop: a fold that took some stack for each height would be above. */
 #define VALUE_LIMIT 2700
 #define CHECK_LIMIT 2048
 
