@@ -53,8 +53,8 @@
  * begins in the log. Its right child is the next lower node in entry i, or the leaf if there is
  * none. A leaf digest is the SHA-256 of 0x00 and the value item; a node's own digest is that of its
  * height as one byte, the left digest and the right child's digest. The root of a log is the own
- * digest of the highest node in its last entry, the leaf digest of its one entry, or 32 zero bytes
- * if it is empty.
+ * digest of the highest node in its last entry, the leaf digest of its one entry, or the SHA-256 of
+ * no bytes if it is empty.
  *
  * A log is well formed where every byte of it is the one that is written for its values.
  *
@@ -310,11 +310,11 @@ struct ringlog_count ringlog_append(uint8_t *buffer, size_t buffer_len, size_t u
 struct ringlog_extent ringlog_audit(const uint8_t *bytes, size_t bytes_len);
 
 /*
- * The root of a log: the top digest that its last entry stores, or 32 zero bytes for an empty log.
- * It is read, not worked out anew: of bytes that may be damaged it says nothing before an audit.
- * Refused with 6 where the log does not open. Writes nothing.
+ * The root of a log: the top digest that its last entry stores, or the SHA-256 of no bytes for an
+ * empty log. It is read, not worked out anew: of bytes that may be damaged it says nothing before an
+ * audit. Refused with 6, and 32 zero bytes, where the log does not open. Writes nothing.
  *
- * Example, the root of three values, and that of the first one, which is its leaf digest:
+ * Example, the roots of three values, of the first, which is its leaf digest, and of none:
  *
  *     const uint8_t leaf[10] = {0x00, RINGLOG_TAP, 0, 0, 0, 0, 0, 0, 0, 1};
  *     struct ringlog_digest leaf_digest = ringlog_sha256(leaf, sizeof leaf);
@@ -322,6 +322,10 @@ struct ringlog_extent ringlog_audit(const uint8_t *bytes, size_t bytes_len);
  *     struct ringlog_digest root = ringlog_root(ring, used);
  *     assert(root.number == RINGLOG_ANSWERED && first_root.number == RINGLOG_ANSWERED);
  *     assert(memcmp(first_root.digest, leaf_digest.digest, RINGLOG_DIGEST) == 0);
+ *     struct ringlog_digest no_bytes = ringlog_sha256(ring, 0);
+ *     struct ringlog_digest empty_root = ringlog_root(ring, 0);
+ *     assert(empty_root.number == RINGLOG_ANSWERED);
+ *     assert(memcmp(empty_root.digest, no_bytes.digest, RINGLOG_DIGEST) == 0);
  */
 struct ringlog_digest ringlog_root(const uint8_t *log, size_t log_len);
 

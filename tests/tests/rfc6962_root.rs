@@ -98,13 +98,14 @@ fn the_root_of_4096_taps_and_of_as_many_tickets_is_their_merkle_tree_hash() {
     }
 }
 
-/// A leaf has one tag in both editions, and the tag of a node is 0x01 in the first one too where
-/// its height is 1. From three values on a higher node is the root.
+/// Of no values both have SHA-256 of no bytes. A leaf has one tag in both editions, and the tag of a
+/// node is 0x01 in the first one too where its height is 1. From three values on a higher node is the
+/// root.
 #[test]
-fn the_two_editions_have_one_root_for_one_value_and_for_two_and_for_more_two_roots() {
+fn the_two_editions_have_one_root_for_up_to_two_values_and_for_more_two_roots() {
     let mut random = Random::new(5);
     let log = logs::log(100, &mut random);
-    for n in 1..=100 {
+    for n in 0..=100 {
         let log = log.beginning(n);
         let (first, second) = (ringlog::root(log), ringlog::rfc6962_root(log));
         assert_eq!((first.number, second.number), (0, 0), "{n} values");

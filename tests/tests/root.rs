@@ -3,6 +3,7 @@
 
 use ringlog_tests::bent::each_bent;
 use ringlog_tests::far::{Far, LIMIT};
+use ringlog_tests::hex::hex;
 use ringlog_tests::logs;
 use ringlog_tests::memory::lend_beginnings;
 use ringlog_tests::model::Log;
@@ -27,8 +28,10 @@ fn root(bytes: &[u8], case: impl Fn() -> String) -> Digest {
 }
 
 #[test]
-fn the_root_of_an_empty_log_is_32_zero_bytes_and_no_refusal() {
-    assert_eq!(ringlog::root(&[]), answered([0; 32]));
+fn the_root_of_an_empty_log_is_the_digest_of_no_bytes_and_no_refusal() {
+    let Digest { number, digest } = ringlog::root(&[]);
+    let of_no_bytes = "e3b0c44298fc1c149afbf4c8996fb92427ae41e4649b934ca495991b7852b855";
+    assert_eq!((number, &hex(&digest)[..]), (0, of_no_bytes));
 }
 
 #[test]

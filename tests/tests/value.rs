@@ -92,8 +92,9 @@ fn a_full_log_answers_every_value_in_its_place() {
 fn index_0_gives_2_also_on_an_empty_log() {
     let mut random = Random::new(4);
     for i in [0, 1, 2].into_iter().chain(FAR_ABOVE) {
-        assert_eq!(ringlog::value(&[], &[0; 32], i), refusal(2), "{i}");
-        assert_eq!(ringlog::value(&[], &random.digest(), i), refusal(2), "{i}");
+        for root in [ringlog::root(&[]).digest, [0; 32], random.digest()] {
+            assert_eq!(ringlog::value(&[], &root, i), refusal(2), "{i}, {root:02x?}");
+        }
     }
     for n in 1..=40 {
         let mut log = logs::log(n, &mut random);

@@ -3,7 +3,7 @@
 A log is here its list of values; the ring's is the first of two. Two logs are compared value by value; reads and the
 lengths of proofs come from document 01's formulas.
 """
-from samples.log import NAME, bent, log, replaced, whole
+from samples.log import NAME, bent, log, replaced, sha256, whole
 
 
 def in_common(first, second):
@@ -35,7 +35,7 @@ def reads(m, n, differ_at):
 def audit_text(name, values, total):
     """What phone prints of an audit that finds the log of these values in so many bytes."""
     data = log(values)
-    root = data[-37:-5] if data else bytes(32)  # the top digest stands before the length item
+    root = data[-37:-5] if data else sha256(b"")  # the top digest stands before the length item
     state = "whole" if len(data) == total else "torn"
     return "%s: entries %d, bytes %d of %d, %s\nroot: %s\n" % (name, len(values), len(data), total, state, root.hex())
 

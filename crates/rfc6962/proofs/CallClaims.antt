@@ -46,7 +46,7 @@ path-of-log vs i out ok first high fits =
 
 pub path-included : claims.PathIncluded
 path-included vs i ok first high =
-    rw (path-is rfc6962 vs i first high (ok .few), mth-root rfc6962 vs (omega arith) (ok .few)) (proof-accepted rfc6962 vs i ok first high)
+    rw (path-is rfc6962 vs i first high (ok .few), mth-root rfc6962 vs (ok .few)) (proof-accepted rfc6962 vs i ok first high)
 
 pub consistency-decided : claims.ConsistencyDecided
 consistency-decided b m room bytes =

@@ -1,6 +1,7 @@
 -- The RFC's example, and the way from six values to eight, by computation.
 -- Assumes nothing.
 use mathlib.Core.Path.{refl}
+use Rattle.slate.specs.Tree.{emptyRoot}
 use Rattle.rfc6962.specs.Claims as claims
 use Rattle.rfc6962.specs.Rfc6962.{mth, mthFrom, pathFrom, powerBelow, splitHeight, subproofFrom}
 
@@ -13,5 +14,5 @@ unfolding mth mthFrom powerBelow splitHeight subproofFrom
 six-to-eight d0 d1 d2 d3 d4 d5 d6 d7 = refl
 
 pub mth-of-none : claims.MthOfNone
-unfolding mth
+unfolding mth emptyRoot
 mth-of-none pre = refl

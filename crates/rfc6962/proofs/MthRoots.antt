@@ -1,15 +1,14 @@
 -- MTH is the digest of the tree by heights, for any prefix rule.
 -- Assumes nothing.
 use mathlib.Core.List.{List, [], _∷_}
-use mathlib.Core.Path.{_≡_, sym, ap, _∙_}
+use mathlib.Core.Path.{_≡_, refl, sym, ap, _∙_}
 use Prim.Native.Nat.{ℕ, zero, suc, _-_, _^_, _≤_, _<_}
 use native.Mathlib.Omega.{arith}
 use borrow.Author.Tests.{le-leb}
 use lib.ListN.{length, take}
 use Rattle.slate.specs.Digits.{maxHeight}
-use Rattle.slate.specs.Tree.{Rule, top}
+use Rattle.slate.specs.Tree.{Rule, root, top}
 use Rattle.slate.proofs.Bits.{base-le, base-zero, left-lt, no-left, whole-base}
-use Rattle.slate.proofs.Tops.{root-top}
 use Rattle.rfc6962.specs.Claims as claims
 use Rattle.rfc6962.specs.Rfc6962.{mth, mthFrom}
 use Rattle.rfc6962.proofs.Runs.{run, run-left, run-length, run-more, run-one, run-right, run-split, run-whole}
@@ -61,7 +60,6 @@ pub mth-top : (pre : Rule) (vs : List (List ℕ)) (x : ℕ) → length vs ≡ su
 mth-top pre vs x e lt = ap (mth pre) (sym (run-whole vs x maxHeight e (whole-base x maxHeight lt))) ∙ mth-run pre vs x maxHeight (omega arith)
 
 pub mth-root : claims.MthIsRoot
-mth-root pre vs some few =
-    let x : ℕ = length vs - 1 in
-    let e : length vs ≡ suc x = omega arith in
-    mth-top pre vs x e (omega arith) ∙ sym (root-top pre vs x e)
+unfolding mth root
+mth-root pre [] few = refl
+mth-root pre (v ∷ vs) few = mth-top pre (v ∷ vs) (length vs) refl (omega arith)

@@ -83,9 +83,9 @@ SixToEight =
 abbrev pub MthOfNone : Type 0
 MthOfNone = (pre : Rule) → mth pre [] ≡ sha256 []
 
--- and the root of document 01's tree for 1 ≤ n ≤ 4,096
+-- and the root of document 01's tree for any n ≤ 4,096
 abbrev pub MthIsRoot : Type 0
-MthIsRoot = (pre : Rule) (vs : List (List ℕ)) → 1 ≤ length vs → length vs ≤ 2 ^ maxHeight → mth pre vs ≡ root pre vs
+MthIsRoot = (pre : Rule) (vs : List (List ℕ)) → length vs ≤ 2 ^ maxHeight → mth pre vs ≡ root pre vs
 
 -- PATH is document 01's path, whose index is from 1
 abbrev pub PathIsPath : Type 0

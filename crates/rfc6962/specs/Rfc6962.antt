@@ -8,7 +8,7 @@ use lib.Dec.{eqb, leb, ltb}
 use lib.ListN.{length, getD, take, drop}
 use Rattle.sha256.specs.Fips180.{sha256}
 use Rattle.sha256.specs.Pick.{pick}
-use Rattle.slate.specs.Tree.{Rule, leafInput, nodeInput}
+use Rattle.slate.specs.Tree.{Rule, emptyRoot, leafInput, nodeInput}
 
 -- the largest p below h with 2 ^ p smaller than n, 0 if there is none
 unfoldable pub powerBelow : ℕ → ℕ → ℕ
@@ -31,9 +31,9 @@ mthFrom pre (suc f) ds =
     (sha256
     (nodeInput pre (suc (splitHeight (length ds))) (mthFrom pre f (take (k (length ds)) ds)) (mthFrom pre f (drop (k (length ds)) ds))))
 
--- MTH({}) = SHA-256()
+-- MTH({}) = SHA-256(), the root of no values of both editions
 unfoldable pub mth : Rule → List (List ℕ) → List ℕ
-mth pre [] = sha256 []
+mth pre [] = emptyRoot
 mth pre (d ∷ ds) = mthFrom pre (length ds) (d ∷ ds)
 
 -- PATH(0, {d(0)}) = {}; for n > 1, PATH(m, D[n]) = PATH(m, D[0:k]) : MTH(D[k:n]) for m < k, and PATH(m - k, D[k:n]) : MTH(D[0:k]) for

@@ -7,42 +7,7 @@ use entry::Cause;
 use entry::Opened;
 use ringlog::RootAnswer;
 use slate::digits::MAX_HEIGHT;
-
-// MTH of no values: SHA-256 of no bytes.
-const EMPTY_ROOT: [u8; 32] = [
-    0xe3,
-    0xb0,
-    0xc4,
-    0x42,
-    0x98,
-    0xfc,
-    0x1c,
-    0x14,
-    0x9a,
-    0xfb,
-    0xf4,
-    0xc8,
-    0x99,
-    0x6f,
-    0xb9,
-    0x24,
-    0x27,
-    0xae,
-    0x41,
-    0xe4,
-    0x64,
-    0x9b,
-    0x93,
-    0x4c,
-    0xa4,
-    0x95,
-    0x99,
-    0x1b,
-    0x78,
-    0x52,
-    0xb8,
-    0x55,
-];
+use slate::empty::empty_root;
 
 // The root of a well-formed log, hashed anew from its values.
 pub fn root(log: &[u8]) -> RootAnswer
@@ -57,7 +22,7 @@ pub fn root(log: &[u8]) -> RootAnswer
     if count == 0 {
         return RootAnswer {
             number: 0,
-            digest: EMPTY_ROOT,
+            digest: empty_root(),
         };
     }
     let digest = digest_under(log, start, count - 1, MAX_HEIGHT);

@@ -183,9 +183,13 @@ InputBytes =
     (rule : code.Rule) (vs : List (List ℕ)) (m i h : ℕ) → m ≤ 2 ^ maxHeight → Present m i h → Bytes (getD vs (i - 1) [])
     → Bytes (hashInput (ruleOf rule) vs i h)
 
--- the root of an empty log is 32 zero bytes
+-- the root of no values is SHA-256 of no bytes
 abbrev pub EmptyRoot : Type 0
-EmptyRoot = (pre : Rule) → root pre [] ≡ replicate 32 0
+EmptyRoot = (pre : Rule) → root pre [] ≡ sha256 []
+
+-- it differs from what an erased cell reads, 32 bytes 0xFF, and from what that reads after inversion, 32 zero bytes
+abbrev pub EmptyRootApart : Type 0
+EmptyRootApart = (pre : Rule) → (root pre [] ≡ replicate 32 0xFF → ⊥) × (root pre [] ≡ replicate 32 0x00 → ⊥)
 
 -- the leaf digest is the root for n = 1
 abbrev pub RootOfOne : Type 0

@@ -4,7 +4,6 @@ use mathlib.Core.Path.{sym, _∙_}
 use native.Mathlib.Omega.{arith}
 use borrow.Author.Needs.{needs}
 use Rattle.slate.specs.Digits.{maxHeight}
-use Rattle.sha256.proofs.Vectors.{vectors}
 use Rattle.rfc6962.proofs.RootForms.{root-none, root-some, root-unformed}
 use Rattle.rfc6962.proofs.WholeForms.{last-stands}
 use Rattle.rfc6962.proofs.roots.root.Statement.{statement}
@@ -17,8 +16,8 @@ returns c =
 
 returns-2 : tie.Need-returns-2
 returns-2 c =
-    let s = c .before .before in
-    root-none _ _ _ (sym (s .before .before .open-whole .ensures) ∙ s .start .given .1) (c .if1 .taken) _ (vectors .1)
+    let s = c .before .before .before in
+    root-none _ _ _ (sym (s .before .before .open-whole .ensures) ∙ s .start .given .1) (c .before .if1 .taken) _ (c .empty-root .ensures)
 
 digest-under-requires : tie.Need-digest-under-requires
 unfolding maxHeight
@@ -41,6 +40,7 @@ root-spec =
     (tie.spec
     (λ c κs. search needs) (λ c. search needs) (λ c. search needs) (λ c κs. search needs)
     returns
+    (λ c κs. search needs)
     returns-2
     (λ c. search needs)
     digest-under-requires
