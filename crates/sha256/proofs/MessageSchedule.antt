@@ -11,7 +11,7 @@ use lib.ListN.{length, getD, set, length-append, length-set, List·getD-append}
 use lib.Seq.{getD-at, getD-set-same, getD-set-other}
 use Rattle.sha256.specs.Claims as claims
 use Rattle.sha256.specs.Fips180.{W, next, schedule, extend}
-use Rattle.sha256.specs.Window.{Kept}
+use Rattle.sha256.specs.Window.{kept, made, rolled, rolledBy}
 
 pub schedule-length : (M : List ℕ) (t : ℕ) → length (schedule M t) ≡ t
 unfolding schedule
@@ -41,26 +41,48 @@ pub W-late : claims.LaterWords
 unfolding extend
 W-late M t h = W-extend M t h
 
--- a block is its own first sixteen words
-pub kept-block : (M : List ℕ) → length M ≡ 16 → Kept M 16 M
-kept-block M e = record {
-  sixteen = e;
-  each = λ u below near. ap (λ (n : ℕ). getD M n 0) (mod-eq-of-lt below) ∙ sym (W-early M u below);
-}
+-- the word that is made of the sixteen words before it
+made-word : (M : List ℕ) (t : ℕ) (w : List ℕ) → 16 ≤ t → ((u : ℕ) → t - 16 ≤ u → u < t → getD w (u % 16) 0 ≡ W M u) → made w t ≡ W M t
+unfolding made
+made-word M t w h each =
+    let last : getD w (t % 16) 0 ≡ W M (t - 16) = ap (λ (n : ℕ). getD w n 0) (omega arith) ∙ each (t - 16) (omega arith) (omega arith) in
+    rw (each (t - 2) (omega arith) (omega arith), each (t - 7) (omega arith) (omega arith), each (t - 15) (omega arith) (omega arith), last) (sym (W-extend M t h))
 
--- word t, put where word t − 16 stood
-pub kept-more : (M : List ℕ) (t : ℕ) (w : List ℕ) (x : ℕ) → x ≡ W M t → Kept M t w → Kept M (t + 1) (set w (t % 16) x)
-kept-more M t w x e k = record {
-  sixteen = simp length-set (k .sixteen);
-  each = λ u below near.
-      ⊎-elim (λ same. rw same (getD-set-same w (t % 16) x 0 (omega (arith, k .sixteen)) ∙ e))
-      (λ older. getD-set-other w (t % 16) (u % 16) x 0 (λ same. omega arith) ∙ k .each u older (omega arith))
-      (eq-or-lt-of-le {n = u} {m = t} (omega arith));
-}
+module _ (M : List ℕ) (block : length M ≡ 16) where
+  -- behind n words more there are sixteen still
+  rolled-length : (n : ℕ) → length (rolledBy M n) ≡ 16
+  unfolding rolledBy rolled
+  rolled-length zero = block
+  rolled-length (suc n) = simp length-set (rolled-length n)
 
--- the word that is made of the kept ones
-pub kept-next : (M : List ℕ) (t : ℕ) (w : List ℕ) → 16 ≤ t → Kept M t w
-    → extend (getD w ((t - 2) % 16) 0) (getD w ((t - 7) % 16) 0) (getD w ((t - 15) % 16) 0) (getD w (t % 16) 0) ≡ W M t
-kept-next M t w h k =
-    let last : getD w (t % 16) 0 ≡ W M (t - 16) = ap (λ (n : ℕ). getD w n 0) (omega arith) ∙ k .each (t - 16) (omega arith) (omega arith) in
-    rw (k .each (t - 2) (omega arith) (omega arith), k .each (t - 7) (omega arith) (omega arith), k .each (t - 15) (omega arith) (omega arith), last) (sym (W-extend M t h))
+  -- and each of the last sixteen words stands at its number modulo 16
+  rolled-each : (n u : ℕ) → n ≤ u → u < n + 16 → getD (rolledBy M n) (u % 16) 0 ≡ W M u
+  unfolding rolledBy rolled
+  rolled-each zero u above below =
+      let first : u < 16 = omega arith in
+      ap (λ (n : ℕ). getD M n 0) (mod-eq-of-lt first) ∙ sym (W-early M u first)
+  rolled-each (suc n) u above below =
+      let w = rolledBy M n in
+      let word = made-word M (16 + n) w (omega arith) (λ v from to. rolled-each n v (omega arith) (omega arith)) in
+      ⊎-elim
+      (λ same. rw same (getD-set-same w ((16 + n) % 16) _ 0 (omega (arith, rolled-length n)) ∙ word))
+      (λ older. getD-set-other w ((16 + n) % 16) (u % 16) _ 0 (λ same. omega arith) ∙ rolled-each n u (omega arith) (omega arith))
+      (eq-or-lt-of-le {n = u} {m = 16 + n} (omega arith))
+
+pub words-kept : claims.WordsKept
+words-kept M t block low high = (
+  rolled-length M block _,
+  λ u from to. rolled-each M block _ u (omega arith) (omega arith),
+  λ p below.
+      let u : ℕ = t - (t - p) % 16 in
+      ap (λ (n : ℕ). getD (kept M t) n 0) (omega arith) ∙ rolled-each M block _ u (omega arith) (omega arith),
+)
+
+-- the word behind n words more
+pub made-next : (M : List ℕ) (n t : ℕ) → length M ≡ 16 → t ≡ 16 + n → made (rolledBy M n) t ≡ W M t
+made-next M n t block e = made-word M t (rolledBy M n) (omega arith) (λ u from to. rolled-each M block n u (omega arith) (omega arith))
+
+-- and what is kept with it
+pub rolled-next : (M : List ℕ) (n m t : ℕ) → t ≡ 16 + n → m ≡ suc n → rolled (rolledBy M n) t ≡ rolledBy M m
+unfolding rolledBy
+rolled-next M n m t e more = ap (rolled (rolledBy M n)) e ∙ ap (rolledBy M) (sym more)

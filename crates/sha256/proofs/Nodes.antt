@@ -1,7 +1,7 @@
 -- The two blocks of a node's input, a tag byte and two digests.
 -- Assumes nothing.
 use mathlib.Core.List.{List, [], _∷_, _++_}
-use mathlib.Core.Path.{_≡_, sym, ap, _∙_}
+use mathlib.Core.Path.{_≡_, sym, ap, ap₂, _∙_}
 use Prim.Native.Nat.{ℕ, suc, _+_, _≤_, _<_}
 use native.Mathlib.Nat.{suc-add}
 use native.Mathlib.Omega.{arith}
@@ -9,7 +9,7 @@ use lib.ListN.{length, getD, set, replicate, length-append, List·getD-append, L
 use lib.Seq.{getD-append-add}
 use Rattle.sha256.specs.Fips180.{join, padded, wordAt, wordsAt, block}
 use Rattle.sha256.proofs.Padding.{ended, block-whole, block-last}
-use Rattle.sha256.proofs.Words.{filled-none, filled-more, filled-all, word-front}
+use Rattle.sha256.proofs.Words.{word-front, words-behind}
 
 -- a word behind the first byte
 word-tail : (t : ℕ) (l : List ℕ) (j : ℕ) → wordAt (t ∷ l) (suc j) ≡ wordAt l j
@@ -68,7 +68,8 @@ module _ (t : ℕ) (x y : List ℕ) (ex : length x ≡ 32) (ey : length y ≡ 32
 
   -- the second block
   pub node-last : set (set (replicate 16 0) 0 (join (getD y 31 0) 128 0 0)) 15 520 ≡ block (padded m) 1
+  unfolding wordsAt
   node-last =
-      let one = filled-more (ended m) 64 0 (replicate 16 0) _ (omega arith) tail-word (filled-none (ended m) 64) in
-      ap (λ (w : List ℕ). set w 15 520) (filled-all (ended m) 64 1 _ (omega (arith, size, length-append m (128 ∷ []))) one)
-      ∙ (rw size at (block-last m 1 (omega (arith, size)) (omega (arith, size))))
+      let words : set (replicate 16 0) 0 (join (getD y 31 0) 128 0 0) ≡ wordsAt 16 (ended m) 64 =
+      ap₂ _∷_ tail-word (words-behind 15 (ended m) 68 (omega (arith, size, length-append m (128 ∷ [])))) in
+      ap (λ (w : List ℕ). set w 15 520) words ∙ (rw size at (block-last m 1 (omega (arith, size)) (omega (arith, size))))

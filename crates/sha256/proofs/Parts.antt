@@ -15,6 +15,10 @@ over x a = take (length x) x ++ drop (length x) a
 over-length : (x a : List ℕ) → length x ≤ length a → length (over x a) ≡ length a
 over-length x a h = simp (length-append, length-take, length-drop) (omega arith)
 
+-- a buffer that begins with t and p, and has q from behind as many bytes of p as x has on
+abbrev pub buffer : ℕ → List ℕ → List ℕ → List ℕ → List ℕ
+buffer t x p q = putMid (1 + length x) (65 - (1 + length x)) (t ∷ (p ++ [])) q
+
 module _ (t : ℕ) (x y p q a : List ℕ) (fits : length x + length y ≤ 64) (room : length a ≡ 64) (first : p ≡ over x a) where
   pub first-length : length (t ∷ (p ++ [])) ≡ 65
   first-length = simp append-nil (ap suc (ap length first ∙ over-length x a (omega arith) ∙ room))
@@ -28,7 +32,7 @@ module _ (t : ℕ) (x y p q a : List ℕ) (fits : length x + length y ≤ 64) (r
 
   module _ (second : q ≡ over y (midOf (1 + length x) (65 - (1 + length x)) (t ∷ (p ++ [])))) where
     -- the tag and both parts
-    pub both-front : take (1 + length x + length y) (putMid (1 + length x) (65 - (1 + length x)) (t ∷ (p ++ [])) q) ≡ t ∷ (x ++ y)
+    pub both-front : take (1 + length x + length y) (buffer t x p q) ≡ t ∷ (x ++ y)
     both-front =
         let rest = drop (length y) (midOf (1 + length x) (65 - (1 + length x)) (t ∷ (p ++ []))) in
         let post = postOf (1 + length x) (65 - (1 + length x)) (t ∷ (p ++ [])) in
@@ -36,3 +40,6 @@ module _ (t : ℕ) (x y p q a : List ℕ) (fits : length x + length y ≤ 64) (r
         rw (first-front, second, take-length, e)
         (ap (λ (l : List ℕ). take (length (t ∷ (x ++ y))) (t ∷ l)) (ap (λ (l : List ℕ). x ++ l) (append-assoc y rest post) ∙ sym (append-assoc x y (rest ++ post)))
         ∙ take-at (t ∷ (x ++ y)) (rest ++ post) (length (t ∷ (x ++ y))) refl)
+
+    pub both-fit : 1 + length x + length y ≤ length (buffer t x p q)
+    both-fit = omega (arith, length-take (1 + length x + length y) (buffer t x p q), ap length both-front, length-append x y)

@@ -43,7 +43,7 @@ _next_ {M} {i} {s} {r} {t} {k} before now = record {
 infixr 20 _then_
 -- a run of rounds, and the run behind it
 pub _then_ : {t u x : ℕ} {s r q : State} {w v y : List ℕ} → Ran t u s w r v → Ran u x r v q y → Ran t x s w q y
-f then g = record { ran = λ M i k e. let a = f .ran M i k e in g .ran M i (a .1) (a .0) }
+f then g = record { ran = λ M i block k e. let a = f .ran M i block k e in g .ran M i block (a .1) (a .0) }
 
 -- one block more
 pub hash-step : (p : List ℕ) (i : ℕ) (s r : State) (b : List ℕ) → s ≡ H p i → b ≡ block p i → r ≡ compressed s b → r ≡ H p (i + 1)

@@ -1,4 +1,4 @@
--- Words and their bytes, words of a list of bytes, and an array that is filled with them one by one.
+-- Words and their bytes, and words of a list of bytes.
 -- Assumes nothing.
 use mathlib.Core.List.{List, [], _∷_, _++_}
 use mathlib.Core.Logic.{_⊎_, inl, inr, ⊎-elim}
@@ -39,7 +39,7 @@ word-same p q j e =
 pub word-front : (p q : List ℕ) (j : ℕ) → j + 4 ≤ length p → wordAt (p ++ q) j ≡ wordAt p j
 word-front p q j h = word-same (p ++ q) p j (λ k above below. List·getD-append p q 0 k (omega arith))
 
--- behind the end of a list all words are zero
+-- behind the end of a list a word is zero
 pub word-behind : (p : List ℕ) (j : ℕ) → length p ≤ j → wordAt p j ≡ 0
 unfolding wordAt
 word-behind p j h =
@@ -73,36 +73,11 @@ words-are n p j w e each =
     ext-getD 0 w (wordsAt n p j) (e ∙ sym (words-length n p j))
     (λ u below. let h : u < n = omega arith in each u h ∙ sym (words-at n p j u h))
 
--- the first t of sixteen words are those of p from byte j on, and the others are zero
-pub record Filled (p : List ℕ) (j t : ℕ) (w : List ℕ) : Type 0 where
-  pub sixteen : length w ≡ 16
-  pub made : (u : ℕ) → u < t → getD w u 0 ≡ wordAt p (j + 4 * u)
-  pub blank : (u : ℕ) → t ≤ u → getD w u 0 ≡ 0
-
-pub filled-none : (p : List ℕ) (j : ℕ) → Filled p j 0 (replicate 16 0)
-filled-none p j = record {
-  sixteen = refl;
-  made = λ u below. absurd (omega arith);
-  blank = λ u above. ⊎-elim (getD-replicate 16 u 0 0) (List·getD-eq-default (replicate 16 0) 0) (lt-or-le u 16);
-}
-
-pub filled-more : (p : List ℕ) (j t : ℕ) (w : List ℕ) (x : ℕ) → t < 16 → x ≡ wordAt p (j + 4 * t) → Filled p j t w
-    → Filled p j (t + 1) (set w t x)
-filled-more p j t w x h e f = record {
-  sixteen = simp length-set (f .sixteen);
-  made = λ u below.
-      ⊎-elim (λ same. rw same (getD-set-same w t x 0 (omega (arith, f .sixteen)) ∙ e))
-      (λ older. getD-set-other w t u x 0 (λ same. omega arith) ∙ f .made u older)
-      (eq-or-lt-of-le {n = u} {m = t} (omega arith));
-  blank = λ u above. getD-set-other w t u x 0 (λ same. omega arith) ∙ f .blank u (omega arith);
-}
-
--- where p ends within the filled words, all sixteen are p's
-pub filled-all : (p : List ℕ) (j t : ℕ) (w : List ℕ) → length p ≤ j + 4 * t → Filled p j t w → w ≡ wordsAt 16 p j
-filled-all p j t w h f =
-    words-are 16 p j w (f .sixteen)
-    (λ u below.
-    ⊎-elim (f .made u) (λ above. f .blank u above ∙ sym (word-behind p (j + 4 * u) (omega arith))) (lt-or-le u t))
+-- behind the end of a list all words are zero
+pub words-behind : (n : ℕ) (p : List ℕ) (j : ℕ) → length p ≤ j → replicate n 0 ≡ wordsAt n p j
+unfolding wordsAt
+words-behind zero p j h = refl
+words-behind (suc n) p j h = ap₂ _∷_ (sym (word-behind p j h)) (words-behind n p (j + 4) (omega arith))
 
 infixr 30 _∷≡_
 -- lists are equal element by element

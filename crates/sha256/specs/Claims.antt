@@ -6,6 +6,7 @@ use lib.ListN.{length, getD, replicate}
 use Rattle.sha256.specs.Answer.{hashed, tagged}
 use Rattle.sha256.specs.Fips180.{W, add32, bytesOf, join, not32, padded, rotr, sha256, shl, shr, wordBytes, zeroBits, σ0, σ1}
 use Rattle.sha256.specs.Reasons.{Decided, Reason}
+use Rattle.sha256.specs.Window.{kept}
 use Rattle.sha256.specs.declared.Hashed.{Hashed}
 
 -- a digest has 32 bytes
@@ -45,6 +46,15 @@ abbrev pub LaterWords : Type 0
 LaterWords =
     (M : List ℕ) (t : ℕ) → 16 ≤ t
     → W M t ≡ add32 (add32 (add32 (σ1 (W M (t - 2))) (W M (t - 7))) (σ0 (W M (t - 15)))) (W M (t - 16))
+
+-- request 4: once word t is made, from word 15 (the block as it is loaded) to word 63, exactly the words t − 15 to t are kept: there are
+-- sixteen places, each of these words u stands at u modulo 16, and each place p has one of these words, and so no other
+abbrev pub WordsKept : Type 0
+WordsKept =
+    (M : List ℕ) (t : ℕ) → length M ≡ 16 → 15 ≤ t → t ≤ 63
+    → (length (kept M t) ≡ 16)
+    × ((u : ℕ) → t - 15 ≤ u → u ≤ t → getD (kept M t) (u % 16) 0 ≡ W M u)
+    × ((p : ℕ) → p < 16 → getD (kept M t) p 0 ≡ W M (t - (t - p) % 16))
 
 -- 5.1.1: the k of a message of n bytes, l = 8n bits, solves l + 1 + k = 448 modulo 512
 abbrev pub PaddingFits : Type 0

@@ -6,4 +6,5 @@ pub mod Pick
 pub mod Reasons
 pub mod Rounds
 pub mod Store
+pub mod Tail
 pub mod Window

@@ -44,7 +44,8 @@ pub fn input_digest(node: bool, tag: u8, first: &[u8], second: &[u8]) -> [u8; 32
     let count = block_count(input_len(node, second));
     let mut state = initial();
     for i in 0..count {
-        state = compress(state, input_block(node, tag, first, second, i));
+        let mut w = input_block(node, tag, first, second, i);
+        state = compress(state, &mut w);
     }
     digest_of(state)
 }

@@ -2,9 +2,10 @@
 // message where it is needed. No padded copy is kept.
 ghost use mathlib.Core.Path.{_≡_};
 ghost use mathlib.Core.List.{_++_, _∷_, []};
-ghost use Prim.Native.Nat.{_+_, _/_, _≤_, _<_};
+ghost use Prim.Native.Nat.{_+_, _*_, _/_, _≤_, _<_};
 ghost use lib.ListN.{length, getD};
 ghost use Rattle.sha256.specs.Fips180 as fips;
+ghost use Rattle.sha256.specs.Tail.{Ends};
 
 // The number whose four bytes, most significant first, are a, b, c and d.
 pub fn join(a: u8, b: u8, c: u8, d: u8) -> u32
@@ -72,22 +73,51 @@ fn whole(m: &[u8], at: usize) -> [u32; 16]
     ]
 }
 
-// Sixteen words of the message, 0x80 and zeros, where fewer than 64 bytes of the message are left.
+// Word t of those from `at` on: the words before word q lie in the message, word q is `end`, in which the
+// message ends, and behind it are zeros.
+fn tail_word(m: &[u8], at: usize, q: usize, end: u32, t: usize) -> u32
+    requires { ⌜ Ends (now m) at q end ⌝ }
+    ensures { λ r. ⌜ r ≡ fips.wordAt (now (m .entry) ++ (128 ∷ [])) (at + 4 * t) ⌝ }
+{
+    if t < q {
+        return word(m, at + 4 * t);
+    }
+    if t == q {
+        return end;
+    }
+    0
+}
+
+// Sixteen words of the message, 0x80 and zeros, where fewer than 64 bytes of the message are left. They
+// are made one by one: to fill an array up to the message's end would take its 64 bytes of stack.
 fn ended(m: &[u8], at: usize) -> [u32; 16]
     requires { ⌜ (length (now m) < at + 64) × (at ≤ 65536) ⌝ }
     ensures { λ r. ⌜ r ≡ fips.wordsAt 16 (now (m .entry) ++ (128 ∷ [])) at ⌝ }
 {
     let n = m.len();
-    let mut w = [0u32; 16];
     if n < at {
-        return w;
+        return [0u32; 16];
     }
     let q = (n - at) / 4;
-    for t in 0..q {
-        w[t] = word(m, at + 4 * t);
-    }
-    w[q] = ended_word(m, at + 4 * q);
-    w
+    let end = ended_word(m, at + 4 * q);
+    [
+        tail_word(m, at, q, end, 0),
+        tail_word(m, at, q, end, 1),
+        tail_word(m, at, q, end, 2),
+        tail_word(m, at, q, end, 3),
+        tail_word(m, at, q, end, 4),
+        tail_word(m, at, q, end, 5),
+        tail_word(m, at, q, end, 6),
+        tail_word(m, at, q, end, 7),
+        tail_word(m, at, q, end, 8),
+        tail_word(m, at, q, end, 9),
+        tail_word(m, at, q, end, 10),
+        tail_word(m, at, q, end, 11),
+        tail_word(m, at, q, end, 12),
+        tail_word(m, at, q, end, 13),
+        tail_word(m, at, q, end, 14),
+        tail_word(m, at, q, end, 15),
+    ]
 }
 
 // How many blocks the padded message has.

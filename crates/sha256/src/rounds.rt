@@ -4,8 +4,10 @@
 // compiler keeps the words in registers and no table is read (docs/DECISIONS.md).
 ghost use mathlib.Core.Path.{_≡_};
 ghost use Prim.Native.Nat.{_+_, _≤_, _<_};
+ghost use lib.ListN.{length};
 ghost use Rattle.sha256.specs.Fips180 as fips;
 ghost use Rattle.sha256.specs.Rounds.{Ran};
+ghost use Rattle.sha256.specs.Window.{kept};
 use crate::State;
 use crate::schedule::roll;
 use crate::word::add;
@@ -53,8 +55,8 @@ fn step(s: State, w: &mut [u32; 16], t: usize, k: u32) -> State
     one_round(s, k, roll(w, t))
 }
 
-fn rounds_0_to_15(s: State, w: [u32; 16]) -> State
-    ensures { λ r. ⌜ r ≡ fips.rounds w s 16 ⌝ }
+fn rounds_0_to_15(s: State, w: &[u32; 16]) -> State
+    ensures { λ r. ⌜ r ≡ fips.rounds (now (w .entry)) s 16 ⌝ }
 {
     let mut v = s;
     v = one_round(v, 0x428a2f98, w[0]);
@@ -145,22 +147,26 @@ fn rounds_48_to_63(s: State, w: &mut [u32; 16]) -> State
     v
 }
 
-// The working variables after the 64 rounds on the block.
-fn all_rounds(s: State, block: [u32; 16]) -> State
-    ensures { λ r. ⌜ r ≡ fips.rounds block s 64 ⌝ }
+// The working variables after the 64 rounds on the block in w, which is rolled forward where it stands.
+// That w has sixteen words is its type, and the proof is told so in words.
+fn all_rounds(s: State, w: &mut [u32; 16]) -> State
+    requires { ⌜ length (now w) ≡ 16 ⌝ }
+    ensures { λ r. ⌜ (r ≡ fips.rounds (now (w .entry)) s 64) × (now (w .exit) ≡ kept (now (w .entry)) 63) ⌝ }
 {
-    let mut w = block;
-    let v = rounds_0_to_15(s, block);
-    let v = rounds_16_to_31(v, &mut w);
-    let v = rounds_32_to_47(v, &mut w);
-    rounds_48_to_63(v, &mut w)
+    let v = rounds_0_to_15(s, w);
+    let v = rounds_16_to_31(v, w);
+    let v = rounds_32_to_47(v, w);
+    rounds_48_to_63(v, w)
 }
 
-// The next hash value.
-pub fn compress(s: State, block: [u32; 16]) -> State
-    ensures { λ r. ⌜ r ≡ fips.compressed s block ⌝ }
+// The next hash value, by the block in w. No other copy of the block is kept: in the end w has the words
+// 48 to 63.
+pub fn compress(s: State, w: &mut [u32; 16]) -> State
+    requires { ⌜ length (now w) ≡ 16 ⌝ }
+    ensures { λ r. ⌜ r ≡ fips.compressed s (now (w .entry)) ⌝ }
+    ensures { λ _. ⌜ now (w .exit) ≡ kept (now (w .entry)) 63 ⌝ }
 {
-    let v = all_rounds(s, block);
+    let v = all_rounds(s, w);
     State {
         a: add(s.a, v.a),
         b: add(s.b, v.b),

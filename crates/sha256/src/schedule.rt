@@ -1,9 +1,8 @@
 // FIPS 180-4, section 6.2.2, step 1: the message schedule, of which sixteen words are kept.
 ghost use mathlib.Core.Path.{_≡_};
-ghost use mathlib.Core.List.{List};
-ghost use Prim.Native.Nat.{ℕ, _+_, _≤_, _<_};
+ghost use Prim.Native.Nat.{_≤_, _<_};
 ghost use Rattle.sha256.specs.Fips180 as fips;
-ghost use Rattle.sha256.specs.Window.{Kept};
+ghost use Rattle.sha256.specs.Window.{made, rolled};
 use crate::word::add;
 use crate::word::sigma0;
 use crate::word::sigma1;
@@ -14,10 +13,12 @@ fn extend(w2: u32, w7: u32, w15: u32, w16: u32) -> u32
     add(add(add(sigma1(w2), w7), sigma0(w15)), w16)
 }
 
-// Makes word t where word t - 16 stood: then exactly the words t - 15 to t are kept.
+// Makes word t and puts it where word t - 16 stood: then exactly the words t - 15 to t are kept (the
+// claim WordsKept).
 pub fn roll(w: &mut [u32; 16], t: usize) -> u32
     requires { ⌜ (16 ≤ t) × (t < 64) ⌝ }
-    ensures { λ r. ⌜ ((M : List ℕ) → Kept M t (now (w .entry)) → (r ≡ fips.W M t) × Kept M (t + 1) (now (w .exit))) ⌝ }
+    ensures { λ r. ⌜ r ≡ made (now (w .entry)) t ⌝ }
+    ensures { λ _. ⌜ now (w .exit) ≡ rolled (now (w .entry)) t ⌝ }
 {
     let next = extend(
         w[(t - 2) % 16],

@@ -1,13 +1,15 @@
 -- The loop's invariant: the state is the hash value after i blocks of the padded input.
 -- Assumes nothing.
-use mathlib.Core.Path.{_∙_, _≡_}
+use mathlib.Core.Path.{_∙_, _≡_, ap}
 use Prim.Native.Nat.{_-_, _≤_}
 use native.Mathlib.Omega.{arith}
 use borrow.Author.Needs.{needs}
-use Rattle.sha256.specs.Fips180.{H, padded}
+use lib.ListN.{length}
+use Rattle.sha256.specs.Fips180.{H, block, padded}
 use Rattle.sha256.specs.Input.{input}
 use Rattle.sha256.proofs.Inputs.{input-short, input-size}
 use Rattle.sha256.proofs.RoundRuns.{hash-step, hash-ends}
+use Rattle.sha256.proofs.Words.{words-length}
 use Rattle.sha256.proofs.input.input_digest.Statement.{statement}
 use Rattle.sha256.proofs.input.input_digest.Tie as tie
 
@@ -31,10 +33,14 @@ input-block-requires c κs =
     let k = c .before .before .before in
     (search needs, omega (arith, k .block-count .ensures, k .before .input-len .ensures))
 
+compress-requires : tie.Need-compress-requires Inv-loop μ-loop
+unfolding block
+compress-requires c κs = ap length (c .before .input-block .ensures) ∙ words-length 16 _ _
+
 loop-again : tie.Need-loop-again Inv-loop μ-loop
 loop-again c =
-    let l = c .before .before .before .loop in
-    (omega arith, hash-step _ (l .i) (l .state) _ _ (l .inv .1) (c .before .input-block .ensures) (c .compress .ensures))
+    let l = c .before .before .before .before .loop in
+    (omega arith, hash-step _ (l .i) (l .state) _ _ (l .inv .1) (c .before .before .input-block .ensures) (c .compress .ensures .0))
 
 returns : tie.Need-returns Inv-loop μ-loop
 returns c =
@@ -57,7 +63,8 @@ input-digest-spec =
     (λ c κs. search needs)
     loop-holds
     input-block-requires
-    (λ c κs. search needs) (λ c. search needs) (λ c. search needs)
+    compress-requires
+    (λ c. search needs) (λ c. search needs)
     loop-again
     (λ c κs. search needs)
     returns)

@@ -7,7 +7,7 @@ use Rattle.sha256.proofs.rounds.compress.Tie as tie
 
 returns : tie.Need-returns
 unfolding compressed plus
-returns c = cc
+returns c = (cc, c .before .before .before .before .before .before .before .before .all-rounds .ensures .1)
 
 pub compress-spec : {M : Type 1} → statement M
 compress-spec =
