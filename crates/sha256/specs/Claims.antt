@@ -48,7 +48,7 @@ LaterWords =
     → W M t ≡ add32 (add32 (add32 (σ1 (W M (t - 2))) (W M (t - 7))) (σ0 (W M (t - 15)))) (W M (t - 16))
 
 -- request 4: once word t is made, from word 15 (the block as it is loaded) to word 63, exactly the words t − 15 to t are kept: there are
--- sixteen places, each of these words u stands at u modulo 16, and each place p has one of these words, and so no other
+-- sixteen places, each of these words u stands at place u modulo 16, and place p has word t − (t − p) modulo 16, one of these and no other
 abbrev pub WordsKept : Type 0
 WordsKept =
     (M : List ℕ) (t : ℕ) → length M ≡ 16 → 15 ≤ t → t ≤ 63
