@@ -16,8 +16,8 @@
 
 #define LIMIT 8192
 
-/* The most for a hash, which keeps sixteen words of the schedule: one that had all 64 in an array, or
-   its 64 constants, would be above. */
+/* The most for a hash, which keeps sixteen words of the schedule. Builds that had all 64 of them, or the
+   64 constants, in an array and looped over the rounds had frames that come out above. */
 #define HASH_LIMIT 512
 
 /* The most for a checked value, and for the check of a proof, a path or a consistency proof, whose

@@ -65,8 +65,8 @@ module _ (M : List ℕ) (block : length M ≡ 16) where
       let w = rolledBy M n in
       let word = made-word M (16 + n) w (omega arith) (λ v from to. rolled-each n v (omega arith) (omega arith)) in
       ⊎-elim
-      (λ same. rw same (getD-set-same w ((16 + n) % 16) _ 0 (omega (arith, rolled-length n)) ∙ word))
-      (λ older. getD-set-other w ((16 + n) % 16) (u % 16) _ 0 (λ same. omega arith) ∙ rolled-each n u (omega arith) (omega arith))
+      (λ same. rw same (getD-set-same w _ _ 0 (omega (arith, rolled-length n)) ∙ word))
+      (λ older. getD-set-other w _ (u % 16) _ 0 (λ same. omega arith) ∙ rolled-each n u (omega arith) (omega arith))
       (eq-or-lt-of-le {n = u} {m = 16 + n} (omega arith))
 
 pub words-kept : claims.WordsKept
