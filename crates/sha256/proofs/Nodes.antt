@@ -3,7 +3,7 @@
 use Rattle.std.proofs.Common.{◌≡◌, ℕ, suc, ◌+◌, ◌<◌, ◌≤◌, List, [], ◌∷◌, ◌++◌, length, get_or, set, replicate, sym, ap, ◌∙◌, ap₂, suc-add, arith, length-append, get_or-append-add}
 use lib.ListN.{get_or-append, get_or-eq_default}
 use Rattle.sha256.specs.Fips180.{join, padded, word_at, words_at, block}
-use Rattle.sha256.proofs.Padding.{ended, block_whole, block_tail, last_length}
+use Rattle.sha256.proofs.Padding.{ended, block_whole, block_last}
 use Rattle.sha256.proofs.Words.{word_front, words_behind}
 
 -- a word behind the first byte
@@ -67,6 +67,4 @@ module _ (t : ℕ) (x y : List ℕ) (ex : length x ≡ 32) (ey : length y ≡ 32
   node_last =
       let words : set (replicate 16 0) 0 (join (get_or y 31 0) 128 0 0) ≡ words_at 16 (ended m) 64 =
       ap₂ ◌∷◌ tail_word (words_behind 15 (ended m) 68 (omega (arith, size, length-append m (128 ∷ [])))) in
-      ap (λ (w : List ℕ). set w 15 520) words
-      ∙ block_tail m 1 (omega (arith, size)) (omega (arith, size)) 520
-      (rw size at (last_length m 1 (omega (arith, size)) (omega (arith, size))))
+      ap (λ (w : List ℕ). set w 15 520) words ∙ (rw size at (block_last m 1 (omega (arith, size)) (omega (arith, size))))

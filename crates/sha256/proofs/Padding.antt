@@ -2,7 +2,6 @@
 -- Assumes nothing.
 use Rattle.std.proofs.Common.{◌≡◌, ℕ, ◌+◌, ◌-◌, ◌*◌, ◌/◌, ◌%◌, ◌^◌, ◌<◌, ◌≤◌, List, [], ◌∷◌, ◌++◌, length, get_or, set, replicate, sym, ap, ◌∙◌, ⊎_elim, append_assoc, add-zero, eq-or-lt_of_le, arith, length-append, length-set, get_or-set_other, get_or-set_same, get_or-append-add}
 use lib.ListN.{length-replicate, get_or-replicate, get_or-append, get_or-eq_default, replicate-append-replicate}
-use lib.Seq.{get_or_at}
 use Rattle.sha256.specs.Claims as claims
 use Rattle.sha256.specs.Fips180.{zero_bytes, padded, word_at, word_bytes, words_at, block}
 use Rattle.sha256.proofs.Words.{lt_or_le, word_same, words_same, words_length, words_at_lem, words_are}
@@ -26,16 +25,6 @@ padded_bytes m u v n e low k =
 -- the message and the byte behind it
 abbrev pub ended : List ℕ → List ℕ
 ended m = m ++ (128 ∷ [])
-
--- its bytes: in the message, at its end, and behind that
-pub in_message : (m : List ℕ) (k : ℕ) → k < length m → get_or (ended m) k 0 ≡ get_or m k 0
-in_message m k h = get_or-append m (128 ∷ []) 0 k h
-
-pub at_end : (m : List ℕ) (k : ℕ) → length m ≡ k → get_or (ended m) k 0 ≡ 128
-at_end m k h = get_or_at m 128 [] 0 k h
-
-pub behind_end : (m : List ℕ) (k : ℕ) → length m < k → get_or (ended m) k 0 ≡ 0
-behind_end m k h = get_or-eq_default (ended m) 0 (simp length-append (omega arith))
 
 pub padded_length : (m : List ℕ) → length (padded m) ≡ (length m + 72) / 64 * 64
 unfolding padded zero_bytes
@@ -116,7 +105,7 @@ padded_last m h =
 padded_message : (m : List ℕ) (k : ℕ) → k < length m → get_or m k 0 ≡ get_or (padded m) k 0
 unfolding padded
 padded_message m k h =
-    sym (get_or-append (ended m) _ 0 k (omega (arith, length-append m (128 ∷ []))) ∙ in_message m k h)
+    sym (get_or-append (ended m) _ 0 k (omega (arith, length-append m (128 ∷ []))) ∙ get_or-append m (128 ∷ []) 0 k h)
 
 module _ (m : List ℕ) (i : ℕ) where
   -- a block that lies in the message
@@ -124,27 +113,26 @@ module _ (m : List ℕ) (i : ℕ) where
   unfolding block
   block_whole h = words_same 16 m (padded m) (64 * i) (λ k above below. padded_message m k (omega arith))
 
-  -- behind that: the last word of the last block is the length in bits
-  pub last_length : length m ≤ 65535 → i ≡ (length m + 8) / 64 → length m * 8 ≡ word_at (padded m) (64 * i + 60)
-  unfolding zero_bytes
-  last_length h last = sym (padded_last m h) ∙ ap (word_at (padded m)) (omega arith)
-
-  -- the last word of a block before it is the message's end, or zero
-  pub last_ended : length m ≤ 65535 → i < (length m + 8) / 64 → word_at (ended m) (64 * i + 60) ≡ word_at (padded m) (64 * i + 60)
-  unfolding zero_bytes
-  last_ended h before = word_same (ended m) (padded m) (64 * i + 60) (λ k above under. padded_front m k h (omega arith))
-
-  -- the words before the last are those of the message, the byte 0x80 and zeros
-  pub block_tail : length m ≤ 65535 → i < (length m + 72) / 64 → (x : ℕ) → x ≡ word_at (padded m) (64 * i + 60)
-      → set (words_at 16 (ended m) (64 * i)) 15 x ≡ block (padded m) i
+  -- a block behind that, and before the last
+  pub block_ended : length m ≤ 65535 → i < (length m + 8) / 64 → words_at 16 (ended m) (64 * i) ≡ block (padded m) i
   unfolding block zero_bytes
-  block_tail h inside x e =
+  block_ended h before =
+      words_same 16 (ended m) (padded m) (64 * i) (λ k above below. padded_front m k h (omega arith))
+
+  -- the last block
+  pub block_last : length m ≤ 65535 → i ≡ (length m + 8) / 64 → set (words_at 16 (ended m) (64 * i)) 15 (length m * 8) ≡ block (padded m) i
+  unfolding block zero_bytes
+  block_last h last =
       words_are 16 (padded m) (64 * i) _ (simp length-set (words_length 16 (ended m) (64 * i)))
       (λ u below.
       ⊎_elim
-      (λ same. rw same (get_or-set_same (words_at 16 (ended m) (64 * i)) 15 x 0 (omega (arith, words_length 16 (ended m) (64 * i))) ∙ e))
+      (λ same.
+      rw same
+      (get_or-set_same (words_at 16 (ended m) (64 * i)) 15 (length m * 8) 0 (omega (arith, words_length 16 (ended m) (64 * i)))
+      ∙ sym (padded_last m h)
+      ∙ ap (word_at (padded m)) (omega arith)))
       (λ l.
-      get_or-set_other (words_at 16 (ended m) (64 * i)) 15 u x 0 (λ same. omega arith)
+      get_or-set_other (words_at 16 (ended m) (64 * i)) 15 u (length m * 8) 0 (λ same. omega arith)
       ∙ words_at_lem 16 (ended m) (64 * i) u below
       ∙ word_same (ended m) (padded m) (64 * i + 4 * u) (λ k above under. padded_front m k h (omega arith)))
       (eq-or-lt_of_le {n = u} {m = 15} (omega arith)))

@@ -1,6 +1,6 @@
 // FIPS 180-4, sections 5.1.1 and 5.2.1: the blocks of the padded message, each made from the
 // message where it is needed. No padded copy is kept.
-ghost use Rattle.std.specs.Prelude.{◌≡◌, ◌+◌, ◌*◌, ◌/◌, ◌<◌, ◌≤◌, [], ◌∷◌, ◌++◌, length};
+ghost use Rattle.std.specs.Prelude.{◌≡◌, ◌+◌, ◌*◌, ◌/◌, ◌<◌, ◌≤◌, [], ◌∷◌, ◌++◌, length, slice_index};
 ghost use Rattle.sha256.specs.Fips180 as fips;
 ghost use Rattle.sha256.specs.Tail.{Ends};
 
@@ -19,22 +19,30 @@ pub fn word(m: &[u8], j: usize) -> u32
     join(m[j], m[j + 1], m[j + 2], m[j + 3])
 }
 
-// The word from j on, in which the message ends, with the byte 0x80 and zeros behind it.
-fn ended_word(m: &[u8], j: usize) -> u32
-    requires { (j ≤ length m.now) × (length m.now < j + 4) }
-    ensures { result ≡ fips.word_at (m.now ++ (128 ∷ [])) j }
+// Byte j of the message, the byte 0x80 behind it, and zeros behind that.
+fn ended_byte(m: &[u8], j: usize) -> u8
+    ensures { result ≡ slice_index (m.now ++ (128 ∷ [])) j }
 {
     let n = m.len();
+    if j < n {
+        return m[j];
+    }
     if j == n {
-        return join(128, 0, 0, 0);
+        return 128;
     }
-    if j + 1 == n {
-        return join(m[j], 128, 0, 0);
-    }
-    if j + 2 == n {
-        return join(m[j], m[j + 1], 128, 0);
-    }
-    join(m[j], m[j + 1], m[j + 2], 128)
+    0
+}
+
+fn ended_word(m: &[u8], j: usize) -> u32
+    requires { j ≤ 65600 }
+    ensures { result ≡ fips.word_at (m.now ++ (128 ∷ [])) j }
+{
+    join(
+        ended_byte(m, j),
+        ended_byte(m, j + 1),
+        ended_byte(m, j + 2),
+        ended_byte(m, j + 3),
+    )
 }
 
 // Sixteen words of the message.
@@ -68,50 +76,24 @@ fn tail_word(m: &[u8], at: usize, q: usize, end: u32, t: usize) -> u32
     requires { Ends m.now at q end }
     ensures { result ≡ fips.word_at (m.now ++ (128 ∷ [])) (at + 4 * t) }
 {
-    if q < t {
-        return 0;
+    if t < q {
+        return word(m, at + 4 * t);
     }
     if t == q {
         return end;
     }
-    word(m, at + 4 * t)
+    0
 }
 
-// The length in bits of a message of n bytes, which takes one word.
-fn length_word(n: usize) -> u32
-    requires { n ≤ 65535 }
-    ensures { result ≡ n * 8 }
-{
-    (n * 8) as u32
-}
-
-// The last word of block i: the length where it is the last block, else a word as those before it.
-fn last_word(m: &[u8], i: usize, q: usize, end: u32) -> u32
-    requires m_len_bound { (length m.now ≤ 65535) × (i < (length m.now + 72) / 64) }
-    requires ends { Ends m.now (64 * i) q end }
-    ensures { result ≡ fips.word_at (fips.padded m.now) (64 * i + 60) }
+// Sixteen words of the message, 0x80 and zeros, where fewer than 64 bytes of the message are left. They
+// are made one by one: to fill an array up to the message's end would take its 64 bytes of stack.
+fn ended(m: &[u8], at: usize) -> [u32; 16]
+    requires { (length m.now < at + 64) × (at ≤ 65536) }
+    ensures { result ≡ fips.words_at 16 (m.now ++ (128 ∷ [])) at }
 {
     let n = m.len();
-    let at = 64 * i;
-    if n + 8 < at + 64 {
-        return length_word(n);
-    }
-    tail_word(m, at, q, end, 15)
-}
-
-// Block i of the padded message, where fewer than 64 bytes of the message are left. Its words are made one
-// by one: to fill an array up to the message's end would take its 64 bytes of stack.
-fn ended(m: &[u8], i: usize) -> [u32; 16]
-    requires m_len_bound { (length m.now ≤ 65535) × (i < (length m.now + 72) / 64) }
-    requires m_len_bound_2 { length m.now < 64 * i + 64 }
-    ensures { result ≡ fips.block (fips.padded m.now) i }
-{
-    let n = m.len();
-    let at = 64 * i;
     if n < at {
-        let mut w = [0u32; 16];
-        w[15] = length_word(n);
-        return w;
+        return [0u32; 16];
     }
     let q = (n - at) / 4;
     let end = ended_word(m, at + 4 * q);
@@ -131,7 +113,7 @@ fn ended(m: &[u8], i: usize) -> [u32; 16]
         tail_word(m, at, q, end, 12),
         tail_word(m, at, q, end, 13),
         tail_word(m, at, q, end, 14),
-        last_word(m, i, q, end),
+        tail_word(m, at, q, end, 15),
     ]
 }
 
@@ -143,7 +125,7 @@ pub fn block_count(n: usize) -> usize
     (n + 72) / 64
 }
 
-// Block i of the padded message, from 0.
+// Block i of the padded message, from 0; the last one ends with the length in bits.
 pub fn block(m: &[u8], i: usize) -> [u32; 16]
     requires { (length m.now ≤ 65535) × (i < (length m.now + 72) / 64) }
     ensures { result ≡ fips.block (fips.padded m.now) i }
@@ -153,5 +135,9 @@ pub fn block(m: &[u8], i: usize) -> [u32; 16]
     if at + 64 <= n {
         return whole(m, at);
     }
-    ended(m, i)
+    let mut w = ended(m, at);
+    if i == (n + 8) / 64 {
+        w[15] = (n * 8) as u32;
+    }
+    w
 }

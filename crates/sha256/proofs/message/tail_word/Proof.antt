@@ -1,4 +1,4 @@
--- A zero behind the message, the word in which it ends, or one of its words.
+-- A word of the message, the one in which it ends, or a zero behind it.
 -- Assumes nothing.
 use Rattle.std.proofs.Common.{ℕ, ◌+◌, ◌*◌, [], ◌∷◌, ◌++◌, sym, ap, ◌∙◌, arith, length-append, rules}
 use Rattle.sha256.specs.Fips180.{word_at}
@@ -8,9 +8,9 @@ use Rattle.sha256.proofs.message.tail_word.Tie as tie
 
 returns : tie.Need-returns
 returns c =
-    let start = c.before.before in
+    let start = c.before.before.before in
     let a = start.args in
-    sym (word_behind (a.m.now ++ (128 ∷ [])) (a.at + 4 * a.t) (simp length-append (omega (arith, start.requires.within))))
+    c.word.ensures ∙ sym (word_front a.m.now (128 ∷ []) (a.at + 4 * a.t) (omega (arith, start.requires.before)))
 
 returns-2 : tie.Need-returns-2
 returns-2 c =
@@ -20,9 +20,9 @@ returns-2 c =
 
 returns-3 : tie.Need-returns-3
 returns-3 c =
-    let start = c.before.before.before.before in
+    let start = c.before.before.before in
     let a = start.args in
-    c.word.ensures ∙ sym (word_front a.m.now (128 ∷ []) (a.at + 4 * a.t) (omega (arith, start.requires.before)))
+    sym (word_behind (a.m.now ++ (128 ∷ [])) (a.at + 4 * a.t) (simp length-append (omega (arith, start.requires.within))))
 
 pub tail-word-spec : {M : Type 1} → statement M
-tail-word-spec = tie.close (tie.spec returns returns-2 (λ c. search rules) (λ c. search rules) (λ c κs. search rules) returns-3)
+tail-word-spec = tie.close (tie.spec (λ c. search rules) (λ c. search rules) (λ c κs. search rules) returns returns-2 returns-3)
