@@ -1,4 +1,6 @@
 // The program ringaudit: what it writes of its input. specs/Report.antt says it byte by byte.
+#![tactic(auto)]
+
 mod put;
 
 ghost use Rattle.std.specs.Prelude.{◌∷◌, ◌+◌, ◌≤◌, length};

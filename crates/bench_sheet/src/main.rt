@@ -2,6 +2,8 @@
 // nine lines marked P are one theorem (crates/entry/specs/BenchSheet.antt); what they say of moves and
 // of eight taps is run here too, and so are the two calls that return a part of a log, which C cannot
 // call. NIST's vectors of the hash are run by sha256_vectors.
+#![tactic(auto)]
+
 mod print;
 
 ghost use Rattle.io.specs.Counts.{IsPrefixLen};

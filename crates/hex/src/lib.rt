@@ -1,4 +1,6 @@
 // A digest of 32 bytes as text: 64 lowercase hexadecimal digits.
+#![tactic(auto)]
+
 ghost use Rattle.std.specs.Prelude.{◌/◌, ◌%◌, ◌<◌, ◌≡◌};
 ghost use Rattle.io.specs.Digits.{hex_digit_ascii};
 ghost use Rattle.hex.specs.Hex.{hex_of};

@@ -4,6 +4,8 @@
 // Every call is defined for any bytes, lengths and indexes. specs/Value.antt, Prove.antt and
 // Check.antt say what it answers and what each lent byte is afterwards; specs/Claims.antt says what
 // that is on a well-formed log, and what an answer is worth on any bytes.
+#![tactic(auto)]
+
 mod checking;
 mod proving;
 mod values;

@@ -4,6 +4,8 @@
 // Every call is defined for any bytes, lengths and indexes. specs/Rfc6962.antt has the RFC's own
 // definitions; specs/Root.antt, Prove.antt and Consistency.antt say what each call answers and what
 // each lent byte is afterwards, and specs/Claims.antt what that is worth.
+#![tactic(auto)]
+
 mod checking;
 mod counts;
 mod digests;

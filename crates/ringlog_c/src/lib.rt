@@ -3,6 +3,8 @@
 //
 // A call returns a struct by value, so a refused call writes nothing that it was lent.
 // specs/Wire.antt says what each struct holds.
+#![tactic(auto)]
+
 ghost use Rattle.std.specs.Prelude.{◌≡◌, length};
 ghost use Rattle.sha256.specs.Answer.{hashed};
 ghost use Rattle.slate.specs.Tree.{rfc6962, slate};

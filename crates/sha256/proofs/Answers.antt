@@ -1,6 +1,6 @@
 -- What the calls answer, by cases.
 -- Assumes nothing.
-use Rattle.std.proofs.Common.{◌≡◌, ◌<◌, true, false, length, refl, inl, inr, ⊎_elim, arith, le-ltb, lt-ltb}
+use Rattle.std.proofs.Common.{length, refl, inl, inr, ⊎_elim, arith, le-ltb, lt-ltb}
 use Rattle.sha256.specs.Answer.{hashed, tagged}
 use Rattle.sha256.specs.Claims as claims
 use Rattle.sha256.proofs.Words.{lt_or_le}

@@ -2,9 +2,8 @@
 use Rattle.std.specs.Prelude.{◌≡◌, ℕ, ◌+◌, ◌-◌, ◌*◌, ◌/◌, ◌%◌, ◌^◌, ◌<◌, ◌≤◌, List, [], ◌∷◌, ◌++◌, length, replicate, slice_index}
 use Rattle.sha256.specs.Answer.{hashed, tagged}
 use Rattle.sha256.specs.Fips180.{W, add32, bytes_of, join, not32, padded, rotr, sha256, shl, shr, word_bytes, zero_bits, σ0, σ1}
-use Rattle.sha256.specs.Reasons.{Decided, Reason}
+use Rattle.sha256.specs.Reasons.{Decided}
 use Rattle.sha256.specs.Window.{kept}
-use Rattle.sha256.specs.declared.Hashed.{Hashed}
 
 -- a digest has 32 bytes
 abbrev pub DigestLength : Type 0

@@ -2,6 +2,8 @@
 //
 // specs/Fips180.antt is FIPS 180-4, section by section; specs/Answer.antt is what a call answers.
 // `sha256` is the public call; what `message` and `tagged` have is internal, for the crates above.
+#![tactic(auto)]
+
 mod hash_value;
 mod input;
 pub mod message;
@@ -24,7 +26,7 @@ pub struct Hashed {
 }
 
 // Eight words: the working variables a to h, or a hash value H_0 to H_7.
-#[derive(Drop)]
+#[derive(Clone, Copy)]
 pub struct State {
     pub a: u32,
     pub b: u32,

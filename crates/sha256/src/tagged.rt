@@ -19,7 +19,7 @@ pub fn hash_tagged(tag: u8, first: &[u8], second: &[u8]) -> [u8; 32]
     let mut buffer = [tag; 65];
     let middle = 1 + first.len();
     let end = middle + second.len();
-    bytes::copy(first, &mut buffer[1..]);
-    bytes::copy(second, &mut buffer[middle..]);
+    buffer[1..middle].copy_from_slice(first);
+    buffer[middle..end].copy_from_slice(second);
     digest(&buffer[..end])
 }

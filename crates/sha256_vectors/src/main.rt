@@ -1,6 +1,8 @@
 // Answers each line `LEN HEX` of standard input by a SHA-256 digest, so that NIST's test vectors
 // can be run. LEN is a number of bits, a multiple of 8, and HEX at least one byte in lowercase
 // hexadecimal digits. The message is HEX's bytes, over and over, cut to LEN bits.
+#![tactic(auto)]
+
 ghost use Rattle.std.specs.Prelude.{◌≤◌, length};
 ghost use Rattle.io.specs.Counts.{IsPrefixLen};
 

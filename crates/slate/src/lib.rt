@@ -4,6 +4,8 @@
 //
 // specs/ has the tree itself, in document 01's terms; no code builds it. All functions here are
 // internal, for the crates above: some ask for what their callers have tested.
+#![tactic(auto)]
+
 pub mod digits;
 pub mod empty;
 pub mod fold;

@@ -4,6 +4,8 @@
 // Every call is defined for any bytes. specs/Search.antt and specs/Repair.antt say what it answers,
 // specs/Claims.antt what that is on well-formed logs and what an answer is worth on any
 // bytes.
+#![tactic(auto)]
+
 ghost use Rattle.std.specs.Prelude.{◌≡◌};
 ghost use Rattle.split.specs.Answer.{difference_place, side_number, verdict_number, verdict_of};
 

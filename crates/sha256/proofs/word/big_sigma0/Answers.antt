@@ -1,0 +1,8 @@
+-- Three rotations, each by way of the one before.
+-- Assumes nothing.
+use Rattle.std.proofs.Common.{◌∙◌, arith}
+use Rattle.sha256.proofs.Bitwise.{three_rotations}
+use Rattle.sha256.proofs.word.big_sigma0.Goals as goal
+
+pub returns : goal.returns
+returns c = c.rotr-3.ensures ∙ rw (c.rotr-2.ensures, c.rotr.ensures) (three_rotations 2 11 9 (omega arith) c.ranges.x.fits)

@@ -1,0 +1,12 @@
+-- Two rotations, one by way of the other.
+-- Assumes nothing.
+use Rattle.std.proofs.Common.{ℕ, ap, arith}
+use lib.Bits.{bit_xor}
+use Rattle.sha256.specs.Fips180.{shr}
+use Rattle.sha256.proofs.Bitwise.{two_rotations}
+use Rattle.sha256.proofs.word.sigma1.Goals as goal
+
+pub returns : goal.returns
+returns c =
+    rw (c.rotr-2.ensures, c.rotr.ensures)
+    (ap (λ (r : ℕ). bit_xor r (shr 10 c.args.x)) (two_rotations 17 2 (omega arith) c.ranges.x.fits))
