@@ -82,7 +82,8 @@ def main():
         print(len(new))
         return
 
-    camel = {n: k for n, k in new.items() if "-" not in n}
+    # a name in snake case already is a function of src/ as well: there it stays
+    camel = {n: k for n, k in new.items() if "-" not in n and n != n.lower()}
 
     def respelled(text, names):
         return NAME.sub(lambda m: names.get(m.group(0), m.group(0)), text)

@@ -15,7 +15,7 @@ pub use proving::proof;
 pub use values::{value, value_number, value_place};
 
 // Number 0 and a part of the lent log, or the number of a refusal and an empty part at 0.
-#[derive(Drop)]
+#[derive(Clone, Copy)]
 pub struct Part {
     pub number: u32,
     pub offset: usize,

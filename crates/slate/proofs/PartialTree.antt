@@ -7,7 +7,7 @@ use mathlib.Core.Logic.{◌⊎◌, inl, inr}
 use mathlib.Core.Path.{◌≡◌, sym, ap}
 use Prim.Native.Nat.{ℕ, zero, suc, ◌+◌, ◌*◌, ◌≤◌}
 use native.Mathlib.Omega.{arith}
-use lib.ListN.{drop, get_or, length, take, length-append, length-drop}
+use lib.ListN.{get_or, length, take, length-append, length-drop}
 use lib.Seq.{drop_at, length-take-le, take_at}
 use Rattle.sha256.specs.Fips180.{sha256}
 use Rattle.sha256.proofs.DigestBytes.{digest_length}
@@ -15,7 +15,7 @@ use Rattle.slate.specs.Address.{HasNode, input}
 use Rattle.slate.specs.Claims as claims
 use Rattle.slate.specs.Digits.{base, digit, left}
 use Rattle.slate.specs.PartialTree.{Layout, cut_digests, cuts, from_left, from_right, rebuilt, rebuilt_input}
-use Rattle.slate.specs.Tree.{Rule, leaf_input, node_input, top}
+use Rattle.slate.specs.Tree.{Rule, leaf_input, top}
 use Rattle.slate.proofs.Bits.{base_le, base_zero, left_base, left_end, left_lt, left_pred, no_left}
 use Rattle.slate.proofs.Cases.{by_bool, by_digit, by_equal, by_order, true_false}
 use Rattle.slate.proofs.Lists.{append_inj}

@@ -17,7 +17,7 @@ pub fn digit(x: u32, p: u32) -> u32
 }
 
 // How many of the digits below h are set in x. Internal: h is below 32.
-pub fn ones_below_lem(x: u32, h: u32) -> u32
+pub fn ones_below(x: u32, h: u32) -> u32
     requires { h < 32 }
     ensures value { result ≡ digits.ones_below x h }
     ensures upper_bound { result ≤ h }

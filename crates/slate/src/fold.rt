@@ -15,6 +15,7 @@ use sha256::tagged::hash_tagged;
 // The position at which the way from position `last` down to the leaf at position `target` stands at
 // height h: the end of the block of 2^h positions around the leaf or, where that block is cut short,
 // the last position.
+#[tactic(auto, unfolding(crate::specs::Digits::max_height))]
 fn way_position(last: u32, target: u32, h: u32) -> u32
     requires { (target ≤ last) × (last < 2 ^ digits.max_height) × (h ≤ digits.max_height) }
     ensures { result ≡ min last (digits.base target h + (2 ^ h - 1)) }
@@ -24,6 +25,7 @@ fn way_position(last: u32, target: u32, h: u32) -> u32
 
 // The digest of the node of height p + 1 on that way from that of its child on the way, and the
 // sibling: digit p of the target tells which child the way goes to.
+#[tactic(auto, unfolding(crate::specs::Digits::max_height))]
 fn over(rule: Rule, p: u32, target: u32, child: [u8; 32], sibling: &[u8]) -> [u8; 32]
     requires p_lt_max_height { p < digits.max_height }
     requires sibling_len { length sibling.now ≡ 32 }
@@ -38,6 +40,7 @@ fn over(rule: Rule, p: u32, target: u32, child: [u8; 32], sibling: &[u8]) -> [u8
 
 // The fold of the leaf's digest as that of value i of n. Internal: 1 ≤ i ≤ n ≤ 4,096, and the proof
 // has the siblings.
+#[tactic(auto, unfolding(crate::specs::Digits::max_height))]
 pub fn fold(rule: Rule, n: u32, i: u32, leaf: [u8; 32], proof: &[u8]) -> [u8; 32]
     requires le_i { (1 ≤ i) × (i ≤ n) × (n ≤ 2 ^ digits.max_height) }
     requires i_in_bounds { 32 * moves.hops n i ≤ length proof.now }

@@ -2,7 +2,7 @@
 ghost use Rattle.std.specs.Prelude.{◌≡◌, ◌<◌, ◌≤◌};
 ghost use Rattle.slate.specs.Moves as moves;
 
-use crate::digits::{MAX_HEIGHT, digit, ones_below_lem};
+use crate::digits::{MAX_HEIGHT, digit, ones_below};
 
 // The highest of the digits below h in which n and t differ.
 fn highest_difference(n: u32, t: u32, h: u32) -> u32
@@ -52,5 +52,5 @@ pub fn lefts(n: u32, i: u32) -> u32
     ensures { result ≡ moves.lefts n i }
 {
     let j = split_bit(n, i);
-    turn(n, j) + j - ones_below_lem(i - 1, j)
+    turn(n, j) + j - ones_below(i - 1, j)
 }

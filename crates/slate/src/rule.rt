@@ -3,7 +3,7 @@ ghost use Rattle.std.specs.Prelude.{◌≡◌, ◌≤◌};
 ghost use Rattle.slate.specs.Rules.{rule_of};
 
 // Document 01's tree, and the tree of RFC 6962 over the same values. Both hash 0x00 before a leaf.
-#[derive(Drop)]
+#[derive(Clone, Copy)]
 pub enum Rule {
     Slate,
     Rfc6962,

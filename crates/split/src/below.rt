@@ -52,13 +52,13 @@ pub fn down(
                     Down::Refused(side, cause) => Down::Refused(side, cause),
                     Down::Leaf {
                         position: leaf,
-                        first: first_leaf_lem,
+                        first: first_leaf,
                         second: second_leaf,
                         first_reads,
                         second_reads,
                     } => Down::Leaf {
                         position: leaf,
-                        first: first_leaf_lem,
+                        first: first_leaf,
                         second: second_leaf,
                         first_reads: first_reads + 1,
                         second_reads: second_reads + 1,

@@ -21,7 +21,7 @@ pub use repairing::{repair, repair_place};
 pub use searching::search;
 
 // Which log a refusal speaks of.
-#[derive(Drop)]
+#[derive(Clone, Copy)]
 pub enum Side {
     First,
     Second,
@@ -42,7 +42,7 @@ impl Side {
 }
 
 // How two logs compare; the place of difference is the index of a value.
-#[derive(Drop)]
+#[derive(Clone, Copy)]
 pub enum Verdict {
     Same,
     FirstShorter,
@@ -77,7 +77,7 @@ impl Verdict {
 }
 
 // The values in common, the verdict, and the entries read in each log.
-#[derive(Drop)]
+#[derive(Clone, Copy)]
 pub enum SearchAnswer {
     Answered {
         common: usize,
@@ -90,7 +90,7 @@ pub enum SearchAnswer {
 
 // A part of the donor up to its end: of the first log (1) or of the second (2). Where the search
 // refuses there is no donor (0), and the part is empty at 0.
-#[derive(Drop)]
+#[derive(Clone, Copy)]
 pub struct Piece {
     pub donor: u32,
     pub offset: usize,
@@ -99,7 +99,7 @@ pub struct Piece {
 
 // Internal: a log of `count` entries in which the search has read so many, and where it stands: at
 // last, where the entries in common end, as it reached them.
-#[derive(Drop)]
+#[derive(Clone, Copy)]
 pub struct Tally {
     pub count: u32,
     pub reads: u32,
@@ -107,7 +107,7 @@ pub struct Tally {
 }
 
 // Internal: what the search finds.
-#[derive(Drop)]
+#[derive(Clone, Copy)]
 pub enum Located {
     Found {
         common: u32,
@@ -120,7 +120,7 @@ pub enum Located {
 
 // Internal: the leaf under unequal tops where the values differ, where its entries begin, and how
 // many entries were read in each log on the way.
-#[derive(Drop)]
+#[derive(Clone, Copy)]
 pub enum Down {
     Leaf {
         position: u32,

@@ -105,7 +105,7 @@ fn locate_at(first: &[u8], second: &[u8], position: u32, a: Tally, b: Tally) -> 
         Down::Refused(side, cause) => Located::Refused(side, cause),
         Down::Leaf {
             position: leaf,
-            first: first_leaf_lem,
+            first: first_leaf,
             second: second_leaf,
             first_reads,
             second_reads,
@@ -115,7 +115,7 @@ fn locate_at(first: &[u8], second: &[u8], position: u32, a: Tally, b: Tally) -> 
             first: Tally {
                 count: a.count,
                 reads: a.reads + first_reads,
-                at: first_leaf_lem,
+                at: first_leaf,
             },
             second: Tally {
                 count: b.count,

@@ -4,17 +4,12 @@ use mathlib.Core.Path.{refl}
 use Prim.Native.Nat.{◌<◌}
 use native.Mathlib.Nat.{mod-eq_of_lt}
 use native.Mathlib.Omega.{arith}
-use borrow.Author.Rules.{rules}
 use Rattle.slate.specs.Digits.{base}
 use Rattle.slate.proofs.Bits.{base_le}
-use Rattle.slate.proofs.digits.base.Statement.{statement}
-use Rattle.slate.proofs.digits.base.Tie as tie
+use Rattle.slate.proofs.digits.base.Goals as goal
 
-returns : tie.Need-returns
+pub returns : goal.returns
 unfolding base
 returns c =
     let fits : base c.args.x c.args.p < 4294967296 = omega (arith, base_le c.args.x c.args.p) in
     rw (mod-eq_of_lt fits) refl
-
-pub base-spec : {M : Type 1} → statement M
-base-spec = tie.close (tie.spec (λ c. search rules) (λ c. search rules) returns)
