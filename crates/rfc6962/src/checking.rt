@@ -80,10 +80,10 @@ fn roots_of(m: u32, n: u32, proof: &[u8], old: &[u8]) -> Roots
 {
     let mut digest = [0u8; 32];
     if is_omitted(m, n) {
-        bytes::copy(old, &mut digest);
+        digest.copy_from_slice(old);
         return roots_from(m, n, digest, proof);
     }
-    bytes::copy(&proof[..32], &mut digest);
+    digest.copy_from_slice(&proof[..32]);
     roots_from(m, n, digest, &proof[32..])
 }
 
