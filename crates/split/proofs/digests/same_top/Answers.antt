@@ -1,0 +1,9 @@
+-- The test of the two own digests.
+-- Assumes nothing.
+use mathlib.Core.Path.{ap₂, ◌∙◌}
+use borrow.Author.Rules.{rules}
+use Rattle.slate.specs.Bytes.{same}
+use Rattle.split.proofs.digests.same_top.Goals as goal
+
+pub returns : goal.returns
+returns c = c.same_bytes.ensures ∙ ap₂ same c.digest_at-a.ensures c.digest_at-b.ensures
