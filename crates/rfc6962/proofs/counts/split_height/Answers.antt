@@ -8,19 +8,15 @@ use lib.Count.{count_leading_zeros}
 use Rattle.slate.specs.Digits.{max_height}
 use Rattle.rfc6962.specs.Rfc6962.{split_height}
 use Rattle.rfc6962.proofs.SplitForms.{split_leading}
-use Rattle.rfc6962.proofs.counts.split_height.Statement.{statement}
-use Rattle.rfc6962.proofs.counts.split_height.Tie as tie
+use Rattle.rfc6962.proofs.counts.split_height.Goals as goal
 
 -- it is one of 32 digits, and one of the lowest
 leading : (c : tie.Start) → let n = c.args.n in count_leading_zeros 32 (n - 1) + suc (split_height n) ≡ 32
 unfolding max_height
 leading c = split_leading 32 _ c.requires.0 (omega (arith, c.requires.1))
 
-sub-result-2 : tie.Need-overflow-sub-result-2
-sub-result-2 c = omega (arith, leading c)
+pub overflow_sub-result-2 : goal.overflow_sub-result-2
+overflow_sub-result-2 c = omega (arith, leading c)
 
-returns : tie.Need-returns
-returns c = (omega (arith, leading c), omega (arith, leading c, split_leading max_height _ c.requires.0 c.requires.1))
-
-pub split-height-spec : {M : Type 1} → statement M
-split-height-spec = tie.close (tie.spec (λ c. search rules) sub-result-2 returns)
+pub returns : goal.returns
+returns c = record { value = omega (arith, leading c); upper_bound = omega (arith, leading c, split_leading max_height _ c.requires.0 c.requires.1) }
