@@ -1,7 +1,7 @@
 -- A sibling for each split, by the laws of CountForms.antt: the height falls by one.
 -- Assumes nothing.
-use mathlib.Core.Path.{sym}
-use Prim.Native.Nat.{ℕ, ◌-◌, ◌<◌}
+use mathlib.Core.Path.{◌≡◌, sym}
+use Prim.Native.Nat.{ℕ, ◌-◌, ◌^◌, ◌≤◌, ◌<◌}
 use native.Mathlib.Omega.{arith}
 use Rattle.slate.specs.Digits.{max_height}
 use Rattle.rfc6962.proofs.CountForms.{counted_left, counted_right}
@@ -13,19 +13,18 @@ pub returns-then-m-n : goal.returns-then-m-n
 returns-then-m-n t c = record { value = sym (count_end _ _ _ c.if-m-n.true); upper_bound = omega arith }
 
 -- there is a split
-fewer : (t : ℕ) (c : goal.Else-m-n (claims t) (at t) reads.Post) → let a = c.args in Fewer a.height a.m a.n
-fewer t c =
-    record { some = c.requires.le_m.0; less = omega (arith, c.requires.le_m.1, c.if-m-n.false); few = c.requires.1.1.2 }
+fewer : {h m n : ℕ} → (1 ≤ m) × (m ≤ n) × (n ≤ 2 ^ h) → (m ≡ n → ⊥) → Fewer h m n
+fewer range less = record { some = range.0; less = omega arith; few = range.2 }
 
 pub split_size-size-requires : goal.split_size-size-requires
-split_size-size-requires t c = fewer_limit (fewer t c) c.requires.height_le_max_height
+split_size-size-requires t c = fewer_limit (fewer c.requires.le_m c.if-m-n.false) c.requires.height_le_max_height
 
 pub overflow_sub-height : goal.overflow_sub-height
-overflow_sub-height t c = omega (arith, fewer_next (fewer t c))
+overflow_sub-height t c = omega (arith, fewer_next (fewer c.requires.le_m c.if-m-n.false))
 
 pub sibling_count-requires : goal.sibling_count-requires
 sibling_count-requires t c =
-    let w = fewer t c in
+    let w = fewer c.requires.le_m c.if-m-n.false in
     (omega (arith, fewer_next w), (omega arith, left_range w _ c.split_size-size.ensures c.if-m-size.true))
 
 pub overflow_add-result : goal.overflow_add-result
@@ -34,11 +33,11 @@ overflow_add-result t c = omega arith
 
 pub returns-then-m-size : goal.returns-then-m-size
 returns-then-m-size t c =
-    let it = counted_left (fewer t c) _ c.split_size-size.ensures _ c.if-m-size.true (c.sibling_count.ensures.value, c.sibling_count.ensures.upper_bound) in
+    let it = counted_left (fewer c.requires.le_m c.if-m-n.false) _ c.split_size-size.ensures _ c.if-m-size.true (c.sibling_count.ensures.value, c.sibling_count.ensures.upper_bound) in
     record { value = it.0; upper_bound = it.1 }
 
 pub overflow_sub-height-2 : goal.overflow_sub-height-2
-overflow_sub-height-2 t c = omega (arith, fewer_next (fewer t c))
+overflow_sub-height-2 t c = omega (arith, fewer_next (fewer c.requires.le_m c.if-m-n.false))
 
 pub overflow_sub-m : goal.overflow_sub-m
 overflow_sub-m t c = omega arith
@@ -48,7 +47,7 @@ overflow_sub-n t c = omega arith
 
 pub sibling_count-requires-2 : goal.sibling_count-requires-2
 sibling_count-requires-2 t c =
-    let w = fewer t c in
+    let w = fewer c.requires.le_m c.if-m-n.false in
     (omega (arith, fewer_next w), (omega arith, right_range w _ c.split_size-size.ensures c.if-m-size.false))
 
 pub overflow_add-result-2 : goal.overflow_add-result-2
@@ -57,5 +56,5 @@ overflow_add-result-2 t c = omega arith
 
 pub returns : goal.returns
 returns t c =
-    let it = counted_right (fewer t c) _ c.split_size-size.ensures _ c.if-m-size.false (c.sibling_count-2.ensures.value, c.sibling_count-2.ensures.upper_bound) in
+    let it = counted_right (fewer c.requires.le_m c.if-m-n.false) _ c.split_size-size.ensures _ c.if-m-size.false (c.sibling_count-2.ensures.value, c.sibling_count-2.ensures.upper_bound) in
     record { value = it.0; upper_bound = it.1 }

@@ -1,7 +1,7 @@
 -- The digit of the split is the highest of n - 1.
 -- Assumes nothing.
 use mathlib.Core.Path.{◌≡◌}
-use Prim.Native.Nat.{◌+◌, ◌-◌, suc}
+use Prim.Native.Nat.{ℕ, ◌+◌, ◌-◌, ◌^◌, ◌≤◌, suc}
 use native.Mathlib.Omega.{arith}
 use borrow.Author.Rules.{rules}
 use lib.Count.{count_leading_zeros}
@@ -11,12 +11,14 @@ use Rattle.rfc6962.proofs.SplitForms.{split_leading}
 use Rattle.rfc6962.proofs.counts.split_height.Goals as goal
 
 -- it is one of 32 digits, and one of the lowest
-leading : (c : tie.Start) → let n = c.args.n in count_leading_zeros 32 (n - 1) + suc (split_height n) ≡ 32
+leading : (n : ℕ) → 2 ≤ n → n ≤ 2 ^ max_height → count_leading_zeros 32 (n - 1) + suc (split_height n) ≡ 32
 unfolding max_height
-leading c = split_leading 32 _ c.requires.0 (omega (arith, c.requires.1))
+leading n two few = split_leading 32 _ two (omega arith)
 
 pub overflow_sub-result-2 : goal.overflow_sub-result-2
-overflow_sub-result-2 c = omega (arith, leading c)
+overflow_sub-result-2 c = omega (arith, leading c.args.n c.requires.0 c.requires.1)
 
 pub returns : goal.returns
-returns c = record { value = omega (arith, leading c); upper_bound = omega (arith, leading c, split_leading max_height _ c.requires.0 c.requires.1) }
+returns c =
+    let e = leading c.args.n c.requires.0 c.requires.1 in
+    record { value = omega arith; upper_bound = omega (arith, split_leading max_height _ c.requires.0 c.requires.1) }

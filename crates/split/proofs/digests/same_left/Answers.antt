@@ -1,7 +1,6 @@
 -- The test of the two left digests.
 -- Assumes nothing.
-use mathlib.Core.Path.{ap₂, ◌∙◌}
-use borrow.Author.Rules.{rules}
+use Rattle.std.proofs.Common.{ap₂, ◌∙◌}
 use Rattle.slate.specs.Bytes.{same}
 use Rattle.split.proofs.digests.same_left.Goals as goal
 

@@ -1,7 +1,6 @@
 -- An empty log, and one that has a last entry.
 -- Assumes nothing.
-use mathlib.Core.Path.{sym}
-use native.Mathlib.Omega.{arith}
+use Rattle.std.proofs.Common.{sym, arith}
 use Rattle.split.proofs.LocateForms.{opening_tally}
 use Rattle.split.proofs.locate.begun.Goals as goal
 

@@ -1,6 +1,6 @@
 -- A return for each of the three verdicts.
 -- Assumes nothing.
-use borrow.Author.Tests.{eq-eqb, le-ltb, lt-ltb, ne_eqb}
+use Rattle.std.proofs.Common.{eq-eqb, le-ltb, lt-ltb, ne_eqb}
 use Rattle.slate.specs.Comparison.{by_length}
 use Rattle.split.proofs.locate.by_length.Goals as goal
 

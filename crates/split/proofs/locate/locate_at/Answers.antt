@@ -1,19 +1,18 @@
 -- Equal tops, a refusal below unequal ones, and a leaf.
 -- Assumes nothing.
-use native.Mathlib.Omega.{arith}
-use borrow.Author.Rules.{rules}
+use Rattle.std.proofs.Common.{arith}
 use Rattle.slate.specs.Digits.{max_height}
 use Rattle.split.proofs.DownForms.{down_reads_le}
 use Rattle.split.proofs.LocateForms.{below_leaf, below_refused, equal_tops, first_leaf_lem}
 use Rattle.split.proofs.locate.locate_at.Goals as goal
 
-pub same_top-requires : goal.same_top-requires
+pub same_top-requires-clause-height_le_max_height : goal.same_top-requires-clause-height_le_max_height
 unfolding max_height
-same_top-requires c = record { inside = c.requires.inside; inside_2 = c.requires.inside_2; height_le_max_height = omega arith }
+same_top-requires-clause-height_le_max_height c = omega arith
 
 pub overflow_add-result : goal.overflow_add-result
 unfolding max_height
-overflow_add-result c = omega (arith, c.requires.0.few)
+overflow_add-result c = omega (arith, c.requires.inside.few)
 
 pub returns-then-same_top : goal.returns-then-same_top
 unfolding max_height
@@ -26,9 +25,9 @@ unfolding max_height
 returns-then-position-eq0 c =
     first_leaf_lem _ _ _ _ _ _ c.same_top.ensures c.if-same_top.false c.if-position-eq0.true
 
-pub down-requires : goal.down-requires
+pub down-requires-clause-height_le_max_height : goal.down-requires-clause-height_le_max_height
 unfolding max_height
-down-requires c = record { inside = c.requires.inside; inside_2 = c.requires.inside_2; height_le_max_height = omega arith }
+down-requires-clause-height_le_max_height c = omega arith
 
 pub overflow_add-result-in-Leaf-2 : goal.overflow_add-result-in-Leaf-2
 unfolding max_height

@@ -1,7 +1,6 @@
 -- A refusal, and an answer.
 -- Assumes nothing.
-use mathlib.Core.Path.{sym, ap}
-use borrow.Author.Rules.{rules}
+use Rattle.std.proofs.Common.{sym, ap}
 use Rattle.split.specs.Answer.{split_of}
 use Rattle.split.proofs.AnswerForms.{found_split}
 use Rattle.split.proofs.LocateForms.{refused_run}
@@ -11,6 +10,4 @@ pub returns-in-Refused : goal.returns-in-Refused
 returns-in-Refused c = sym (ap split_of (refused_run _ _ _ c.locate.ensures _ _ c.in-Refused.is))
 
 pub returns-in-Found : goal.returns-in-Found
-returns-in-Found c =
-    found_split _ _ _ c.locate.ensures _ _ _ _
-    c.in-Found.is
+returns-in-Found c = found_split _ _ _ c.locate.ensures _ _ _ _ c.in-Found.is
