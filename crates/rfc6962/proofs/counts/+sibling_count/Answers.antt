@@ -1,7 +1,7 @@
 -- A sibling for each split, by the laws of CountForms.antt: the height falls by one.
 -- Assumes nothing.
 use mathlib.Core.Path.{◌≡◌, sym}
-use Prim.Native.Nat.{ℕ, ◌-◌, ◌^◌, ◌≤◌, ◌<◌}
+use Prim.Native.Nat.{ℕ, ◌^◌, ◌≤◌}
 use native.Mathlib.Omega.{arith}
 use Rattle.slate.specs.Digits.{max_height}
 use Rattle.rfc6962.proofs.CountForms.{counted_left, counted_right}

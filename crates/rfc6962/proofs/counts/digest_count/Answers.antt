@@ -3,7 +3,6 @@
 use mathlib.Core.Path.{sym, ap, ◌∙◌}
 use Prim.Native.Nat.{ℕ, ◌+◌}
 use native.Mathlib.Omega.{arith}
-use borrow.Author.Rules.{rules}
 use Rattle.slate.specs.Digits.{max_height}
 use Rattle.rfc6962.proofs.CountForms.{digests_more, digests_omitted}
 use Rattle.rfc6962.proofs.counts.digest_count.Goals as goal

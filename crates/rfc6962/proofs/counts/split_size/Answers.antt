@@ -1,7 +1,6 @@
 -- A shift by the height of the split.
 -- Assumes nothing.
 use native.Mathlib.Omega.{arith}
-use borrow.Author.Rules.{rules}
 use Rattle.slate.specs.Digits.{max_height}
 use Rattle.rfc6962.proofs.SplitForms.{split_shift}
 use Rattle.rfc6962.proofs.counts.split_size.Goals as goal

@@ -1,13 +1,13 @@
 -- The digests of one child behind those of the other, by the laws of DigestForms.antt: the height falls by one.
 -- Assumes nothing.
-use mathlib.Core.Bool.{Bool, true, false}
+use mathlib.Core.Bool.{Bool, false}
 use mathlib.Core.List.{List}
 use mathlib.Core.Path.{◌≡◌, refl, sym, ◌∙◌}
-use Prim.Native.Nat.{ℕ, suc, ◌+◌, ◌-◌, ◌≤◌, ◌<◌}
+use Prim.Native.Nat.{ℕ, suc, ◌-◌}
 use native.Mathlib.Omega.{arith}
 use borrow.Author.Rules.{rules}
 use lib.ListN.{length}
-use Rattle.slate.specs.Digits.{digit, max_height}
+use Rattle.slate.specs.Digits.{max_height}
 use Rattle.slate.proofs.Cases.{digit_set}
 use Rattle.slate.specs.PartialTree.{outside}
 use Rattle.rfc6962.proofs.DigestForms.{Ready, Within, laid_cut, laid_leaf, laid_left, laid_none, laid_omitted, laid_right, left_first, left_second, ready_none, right_first_lem, right_second, room_cut}

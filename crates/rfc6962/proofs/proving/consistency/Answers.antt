@@ -1,6 +1,6 @@
 -- Test by test, by the laws of MakerForms.antt.
 -- Assumes nothing.
-use Rattle.std.proofs.Common.{◌≡◌, ℕ, ◌*◌, ◌<◌, Bool, true, List, length, get_or, refl, sym, ap, ◌∙◌, arith}
+use Rattle.std.proofs.Common.{◌≡◌, ℕ, ◌*◌, Bool, true, List, length, sym, ap, ◌∙◌, arith}
 use Rattle.slate.specs.Bytes.{Bytes}
 use Rattle.slate.specs.Digits.{max_height}
 use Rattle.slate.specs.Index.{is_index}
@@ -69,6 +69,6 @@ unfolding max_height
 returns c =
     let w = there (λ k. omega (arith, c.type_inv.log k)) c.in-Log.ensures c.is_index.ensures c.if-not-is_index.false in
     let it =
-        made_done _ _ _ _ _ _ w _ (proof_size w ∙ ap (λ (m : ℕ). 32 * m) (sym c.digest_count.ensures.value)) c.if-output-digest_count.false
-        _ (rw c.is_omitted.ensures (proof_digests w)) _ c.put_digests.ensures.value _ c.put_digests.ensures.out_after in
+    made_done _ _ _ _ _ _ w _ (proof_size w ∙ ap (λ (m : ℕ). 32 * m) (sym c.digest_count.ensures.value)) c.if-output-digest_count.false
+    _ (rw c.is_omitted.ensures (proof_digests w)) _ c.put_digests.ensures.value _ c.put_digests.ensures.out_after in
     record { result_value = it.0; output_after = it.1 }

@@ -2,7 +2,6 @@
 -- Assumes nothing.
 use mathlib.Core.Path.{sym, ◌∙◌}
 use native.Mathlib.Omega.{arith}
-use borrow.Author.Rules.{rules}
 use Rattle.slate.specs.Digits.{max_height}
 use Rattle.rfc6962.proofs.RootForms.{root_none, root_some, root_unformed}
 use Rattle.rfc6962.proofs.WholeForms.{last_stands}

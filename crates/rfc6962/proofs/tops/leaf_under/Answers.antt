@@ -1,6 +1,5 @@
 -- The value item found is a leaf's, by the laws of TopForms.antt.
 -- Assumes nothing.
-use borrow.Author.Rules.{rules}
 use Rattle.rfc6962.proofs.TopForms.{item_length, leaf_top}
 use Rattle.rfc6962.proofs.tops.leaf_under.Goals as goal
 
