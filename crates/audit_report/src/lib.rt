@@ -3,13 +3,15 @@
 
 mod put;
 
-ghost use Rattle.std.specs.Prelude.{◌∷◌, ◌+◌, ◌≤◌, length};
-ghost use Rattle.io.specs.Counts.{IsPrefixLen};
+ghost use Rattle.std.specs.Prelude.{ℕ, List, ◌∷◌, ◌+◌, ◌<◌, ◌≤◌, OnOk, length};
+ghost use Rattle.std.specs.Io.KnownBytes.{Appends, Consumes, IsAtEnd};
+ghost use Rattle.input.specs.Counts.{IsPrefixLen};
 ghost use Rattle.audit_report.specs.Put.{Put};
 ghost use Rattle.audit_report.specs.Report.{lines_text, report_text, state_line};
 
-use libc::{STDIN_FILENO, STDOUT_FILENO};
 use put::{put_number, put_text};
+use std::io;
+use std::io::{Read, Write};
 
 // The most bytes that are audited.
 const MOST: usize = 65536;
@@ -30,14 +32,19 @@ pub fn report(input: &[u8], out: &mut [u8; ROOM]) -> usize
     put_lines(out, audited.entries, audited.bytes, input.len())
 }
 
-// Reads standard input, and writes its report.
-pub fn run() {
-    // One byte more than is audited, so that longer input is seen.
-    let mut input = [0u8; MOST + 1];
-    let got = io::read_full(STDIN_FILENO, &mut input);
+// Reads an input, and writes its report: that of all its bytes, or of its first 65,537, one more than
+// are audited, so that longer input is seen.
+pub fn run<R: Read, W: Write>(reader: &mut R, writer: &mut W) -> io::Result<()>
+    ensures { OnOk result ((b : List ℕ) × (length b ≤ 65537)
+        × Consumes (R.remaining reader.old) (R.remaining reader.new) b
+        × (length b < 65537 → IsAtEnd (R.remaining reader.new))
+        × Appends (W.contents writer.old) (W.contents writer.new) (report_text b)) }
+{
+    let mut buffer = [0u8; MOST + 1];
+    let got = input::read_full(reader, &mut buffer)?;
     let mut text = [0u8; ROOM];
-    let count = report(&input[..got], &mut text);
-    io::write_all(STDOUT_FILENO, &text[..count]);
+    let count = report(&buffer[..got], &mut text);
+    writer.write_all(&text[..count])
 }
 
 // The three lines of what an audit found. Internal: there is room for them.

@@ -21,7 +21,17 @@ pub fn put_number(out: &mut [u8], at: usize, text: &[u8], n: usize) -> usize
     ensures upper_bound { result ≤ at + length text.now + 20 }
 {
     let behind = put_text(out, at, text);
-    let mut digits = [0u8; 20];
-    let count = io::decimal(n as u64, &mut digits);
-    put_text(out, behind, &digits[..count])
+    put_decimal(out, behind, n)
+}
+
+// A number in decimal: the digits of the tens, and then the last one.
+fn put_decimal(out: &mut [u8], at: usize, n: usize) -> usize
+    requires { at + length (decimal n) ≤ length out.old }
+    ensures { Put out.old at (decimal n) out.new result }
+{
+    if n < 10 {
+        return put_text(out, at, &[b'0' + n as u8]);
+    }
+    let tens_end = put_decimal(out, at, n / 10);
+    put_text(out, tens_end, &[b'0' + (n % 10) as u8])
 }

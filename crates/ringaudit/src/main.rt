@@ -1,6 +1,8 @@
 // Says how much of standard input is a true log.
 #![tactic(auto)]
 
-fn main() {
-    audit_report::run();
+use std::io;
+
+fn main(rt: HostRuntime) -> io::Result<()> {
+    audit_report::run(&mut rt.stdin(), &mut rt.stdout())
 }

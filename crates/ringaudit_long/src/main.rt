@@ -1,6 +1,8 @@
 // The program ringaudit once more, to be run on an input that is too long.
 #![tactic(auto)]
 
-fn main() {
-    audit_report::run();
+use std::io;
+
+fn main(rt: HostRuntime) -> io::Result<()> {
+    audit_report::run(&mut rt.stdin(), &mut rt.stdout())
 }

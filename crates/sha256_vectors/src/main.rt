@@ -3,64 +3,77 @@
 // hexadecimal digits. The message is HEX's bytes, over and over, cut to LEN bits.
 #![tactic(auto)]
 
-ghost use Rattle.std.specs.Prelude.{◌≤◌, length};
-ghost use Rattle.io.specs.Counts.{IsPrefixLen};
+ghost use Rattle.std.specs.Prelude.{◌≡◌, ℕ, ◌<◌, ◌≤◌, ◌≢◌, length, slice_index};
+ghost use Rattle.input.specs.Counts.{IsPrefixLen};
 
-use libc::{STDIN_FILENO, STDOUT_FILENO};
 use sha256::Hashed;
+use std::io;
 
-fn main() {
+fn main(rt: HostRuntime) -> io::Result<()> {
     // One byte more than is taken, so that longer input is seen.
-    let mut input = [0u8; 65537];
-    let got = io::read_full(STDIN_FILENO, &mut input);
+    let mut text = [0u8; 65537];
+    let got = input::read_full(&mut rt.stdin(), &mut text)?;
     if got == 65537 {
-        io::write_all(STDOUT_FILENO, b"input over 65536 bytes\n");
-        return;
+        return rt.write_all(b"input over 65536 bytes\n");
     }
-    answer_lines(&input[..got]);
+    answer_lines(&rt, &text[..got])
 }
 
 // The last line may lack its line end.
-fn answer_lines(text: &[u8]) {
+fn answer_lines(rt: &impl Print, text: &[u8]) -> io::Result<()> {
     let mut at = 0;
     while at < text.len() {
-        let end = bytes::scan::find(text, at, text.len(), b'\n');
-        answer_line(&text[at..end]);
+        let end = find(text, at, b'\n');
+        answer_line(rt, &text[at..end])?;
         at = end + 1;
     }
+    Ok(())
 }
 
-fn answer_line(line: &[u8]) {
-    let space = bytes::scan::find(line, 0, line.len(), b' ');
+// The first index from `from` on where text has the byte, or text's length where it has none there.
+fn find(text: &[u8], from: usize, byte: u8) -> usize
+    requires { from ≤ length text.now }
+    ensures lower_bound { from ≤ result }
+    ensures upper_bound { result ≤ length text.now }
+    ensures before { (k : ℕ) → from ≤ k → k < result → slice_index text.now k ≢ byte }
+    ensures found { result < length text.now → slice_index text.now result ≡ byte }
+{
+    for i in from..text.len() {
+        if text[i] == byte {
+            return i;
+        }
+    }
+    text.len()
+}
+
+fn answer_line(rt: &impl Print, line: &[u8]) -> io::Result<()> {
+    let space = find(line, 0, b' ');
     if space == line.len() {
-        return bad_line();
+        return bad_line(rt);
     }
     let Length::Bytes(count) = read_length(&line[0..space]) else {
-        return bad_line();
+        return bad_line(rt);
     };
-    let mut message = io::large_buffer();
+    let mut message = [0u8; 65536];
     let period = read_hex(&line[space + 1..], &mut message);
     if message.len() < count || period == 0 {
-        return bad_line();
+        return bad_line(rt);
     }
     repeat(&mut message, period, count);
-    print_answer(sha256::sha256(&message[..count]));
+    print_answer(rt, sha256::sha256(&message[..count]))
 }
 
-fn bad_line() {
-    io::write_all(STDOUT_FILENO, b"bad line\n");
+fn bad_line(rt: &impl Print) -> io::Result<()> {
+    rt.write_all(b"bad line\n")
 }
 
-fn print_answer(hashed: Hashed) {
+fn print_answer(rt: &impl Print, hashed: Hashed) -> io::Result<()> {
     let number = hashed.number;
     if number != 0 {
-        io::write_all(STDOUT_FILENO, b"refused ");
-        io::print_decimal(STDOUT_FILENO, number as u64);
-        io::write_all(STDOUT_FILENO, b"\n");
-        return;
+        return println!(rt; "refused {number}");
     }
     let digest = hashed.digest;
-    hex::print_line(digest);
+    digest_text::print_line(rt, digest)
 }
 
 #[derive(Drop)]

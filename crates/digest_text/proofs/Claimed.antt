@@ -5,10 +5,9 @@ use mathlib.Core.Path.{◌≡◌, refl}
 use Prim.Native.Nat.{ℕ, zero, suc, ◌+◌, ◌*◌, ◌/◌, ◌%◌, ◌<◌}
 use native.Mathlib.Omega.{arith}
 use lib.ListN.{get_or}
-use Rattle.io.specs.Digits.{hex_digit_ascii}
-use Rattle.hex.specs.Claims as claims
-use Rattle.hex.specs.Claims.{sixteen}
-use Rattle.hex.specs.Hex.{hex_of}
+use Rattle.digest_text.specs.Claims as claims
+use Rattle.digest_text.specs.Claims.{sixteen}
+use Rattle.digest_text.specs.Hex.{hex_digit_ascii, hex_of}
 
 pub eight_bytes : claims.EightBytes
 unfolding hex_of

@@ -1,6 +1,6 @@
 -- What is claimed of the text: each claim is a type, and proofs/ has its proof.
 use Rattle.std.specs.Prelude.{List, [], ◌∷◌, ◌++◌, ◌≡◌, ℕ, ◌+◌, ◌*◌, ◌<◌, get_or}
-use Rattle.hex.specs.Hex.{hex_of}
+use Rattle.digest_text.specs.Hex.{hex_of}
 
 -- "0123456789abcdef"
 abbrev pub sixteen : List ℕ

@@ -1,17 +1,15 @@
--- `hex::of_digest` meets its contract. The loop's invariant: the first 2 * i digits are those of the digest's first i bytes.
+-- `of_digest` meets its contract. The loop's invariant: the first 2 * i digits are those of the digest's first i bytes.
 -- Assumes nothing.
 use mathlib.Core.List.{List, [], ◌∷◌, ◌++◌}
 use mathlib.Core.Path.{◌≡◌, refl, sym, ◌∙◌, ap}
-use Prim.Native.Nat.{ℕ, zero, suc, ◌+◌, ◌*◌, ◌-◌, ◌/◌, ◌%◌, ◌≤◌, ◌<◌}
+use Prim.Native.Nat.{ℕ, zero, suc, ◌+◌, ◌*◌, ◌/◌, ◌%◌, ◌<◌}
 use native.Mathlib.Numerals.{add-one}
 use native.Mathlib.Omega.{arith}
 use borrow.Author.Rules.{rules}
 use lib.ListN.{length, take, set, get_or, length-set}
 use lib.Seq.{take-suc-set, append_snoc, take_all}
-use Rattle.hex.specs.Hex.{hex_of}
-use Rattle.io.specs.Digits.{hex_digit_ascii}
-use Rattle.hex.proofs.of_digest.Statement.{statement}
-use Rattle.hex.proofs.of_digest.Tie as tie
+use Rattle.digest_text.specs.Hex.{hex_digit_ascii, hex_of}
+use Rattle.digest_text.proofs.of_digest.Goals as goal
 
 -- one more byte is two more digits at the end
 hex-more : (d : List ℕ) (i : ℕ) → i < length d → hex_of (take (suc i) d) ≡ hex_of (take i d) ++ (hex_digit_ascii (get_or d i 0 / 16) ∷ hex_digit_ascii (get_or d i 0 % 16) ∷ [])
@@ -33,40 +31,21 @@ turn d t i a b hi ht h ea eb =
     let e : 2 * (i + 1) ≡ suc (suc (2 * i)) = omega arith in
     rw (e, add-one (2 * i), add-one i) (rw (two-more t (2 * i) a b ht, hex-more d i hi, h, ea, eb))
 
-abbrev invariant-loop : tie.invariant-loop
-invariant-loop digest text₀ i₀ text i = (i ≤ 32) × (length text ≡ 64) × (take (2 * i) text ≡ hex_of (take i digest))
-
-abbrev decreases-loop : tie.decreases-loop
-decreases-loop digest text₀ i₀ text i = 32 - i
-
-loop-holds : tie.Need-loop-init invariant-loop decreases-loop
+pub loop-i-init : goal.loop-i-init
 unfolding hex_of
-loop-holds c = search rules
+loop-i-init c = search rules
 
-loop-again : tie.Need-loop-preserved invariant-loop decreases-loop
-loop-again c =
-    let at = c.before.before.before.loop in
-    let d = c.before.before.before.before.args.t1 in
+pub loop-i-preserved : goal.loop-i-preserved
+loop-i-preserved c =
+    let at = c.loop-i in
+    let d = c.args.digest in
     let n : length d ≡ 32 = search rules in
-    (omega arith, simp length-set at.invariant.1, turn d at.text at.i _ _ (omega arith) (omega arith) at.invariant.2 c.before.high_digit.ensures c.low_digit.ensures)
+    (omega arith, simp length-set at.invariant.1, turn d at.text at.i _ _ (omega arith) (omega arith) at.invariant.2 c.high_digit.ensures c.low_digit.ensures)
 
-returns : tie.Need-returns invariant-loop decreases-loop
+pub returns : goal.returns
 returns c =
-    let at = c.before.loop in
-    let d = c.before.before.args.t1 in
+    let at = c.loop-i in
+    let d = c.args.digest in
     let n : length d ≡ 32 = search rules in
     let e : at.i ≡ 32 = omega arith in
     sym (take_all (2 * at.i) at.text (omega arith)) ∙ at.invariant.2 ∙ ap hex_of (take_all at.i d (omega arith))
-
-pub of-digest-spec : {M : Type 1} → statement M
-of-digest-spec =
-    tie.close
-    (tie.spec
-    invariant-loop
-    decreases-loop
-    loop-holds
-    (λ c. search rules) (λ c κs. search rules) (λ c. search rules) (λ c. search rules) (λ c. search rules)
-    (λ c κs. search rules) (λ c. search rules) (λ c. search rules) (λ c. search rules) (λ c. search rules)
-    (λ c. search rules)
-    loop-again
-    returns)

@@ -2,10 +2,9 @@
 #![tactic(auto)]
 
 ghost use Rattle.std.specs.Prelude.{◌/◌, ◌%◌, ◌<◌, ◌≡◌};
-ghost use Rattle.io.specs.Digits.{hex_digit_ascii};
-ghost use Rattle.hex.specs.Hex.{hex_of};
+ghost use Rattle.digest_text.specs.Hex.{hex_digit_ascii, hex_of};
 
-use libc::STDOUT_FILENO;
+use std::io;
 
 // Each byte gives two digits, the high one first.
 fn of_digest(digest: [u8; 32]) -> [u8; 64]
@@ -20,9 +19,9 @@ fn of_digest(digest: [u8; 32]) -> [u8; 64]
 }
 
 // Writes the digits and a line end to standard output.
-pub fn print_line(digest: [u8; 32]) {
-    io::write_all(STDOUT_FILENO, &of_digest(digest));
-    io::write_all(STDOUT_FILENO, b"\n");
+pub fn print_line(rt: &impl Print, digest: [u8; 32]) -> io::Result<()> {
+    rt.write_all(&of_digest(digest))?;
+    rt.write_all(b"\n")
 }
 
 fn high_digit(byte: u8) -> u8
