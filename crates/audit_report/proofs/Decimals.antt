@@ -1,11 +1,8 @@
--- The text of a number in decimal, digit by digit, and that it is the fewest digits that hold the number.
+-- The text of a number in decimal, digit by digit, and how long it is.
 -- Assumes nothing.
-use mathlib.Core.Path.{◌≡◌}
-use Prim.Native.Nat.{ℕ, zero, suc, ◌+◌, ◌*◌, ◌-◌, ◌/◌, ◌%◌, ◌^◌, ◌≤◌, ◌<◌}
-use native.Mathlib.Nat.{mod-eq_of_lt, one-le-pow, pow-le-pow_right}
-use native.Mathlib.Omega.{arith}
+use Rattle.std.proofs.Common.{◌≡◌, ℕ, zero, suc, ◌+◌, ◌*◌, ◌/◌, ◌%◌, ◌^◌, ◌≤◌, ◌<◌, [], ◌∷◌, ◌++◌, length, arith}
 use borrow.Author.Tests.{le-ltb, lt-ltb}
-use Rattle.io.specs.Digits.{IsDigitCount, last_digits}
+use lib.ListN.{length-append}
 use Rattle.audit_report.specs.Claims as claims
 use Rattle.audit_report.specs.Decimal.{decimal, decimal_in}
 use Rattle.slate.proofs.Cases.{by_order}
@@ -31,32 +28,25 @@ unfolding decimal decimal_in
 more_digits q r some low =
     let e : (10 * q + r) / 10 ≡ q = omega arith in
     let f : (10 * q + r) % 10 ≡ r = omega arith in
-    rw (le-ltb (10 * q + r) 10 (omega arith), e, f, lt-ltb r 10 low, steps_enough (10 * q + r) (suc q) q (omega arith) (omega arith))
+    rw (le-ltb (10 * q + r) 10 (omega arith), e, f, steps_enough (10 * q + r) (suc q) q (omega arith) (omega arith))
 
--- ---- the fewest digits
+-- of a number that is given whole
+pub last_digit : (n : ℕ) → 10 ≤ n → decimal n ≡ decimal (n / 10) ++ ((48 + n % 10) ∷ [])
+last_digit n more =
+    let e : 10 * (n / 10) + n % 10 ≡ n = omega arith in
+    rw e at (more_digits (n / 10) (n % 10) (omega arith) (omega arith))
 
--- with more steps than the number
-digits_in : (f n k : ℕ) → n < f → IsDigitCount 10 1 n k → last_digits 10 k n ≡ decimal_in f n
-unfolding decimal_in
-digits_in zero n k h w = absurd (omega arith)
-digits_in (suc f) n zero h w = absurd (omega arith)
-digits_in (suc f) n (suc zero) h w = simp (mod-eq_of_lt w.1, lt-ltb n 10 w.1)
-digits_in (suc f) n (suc (suc k)) h w =
-    let e : suc (suc k) - 1 ≡ suc k = omega arith in
-    let l : suc k - 1 ≡ k = omega arith in
-    let low : 10 ^ suc k ≤ n = rw e at (w.2 (omega arith)) in
-    let some : 10 ≤ n = omega (arith, one-le-pow k 10 (omega arith)) in
-    let fewest : IsDigitCount 10 1 (n / 10) (suc k) = (omega arith, omega arith, λ m. rw l (omega arith)) in
-    rw (le-ltb n 10 some, digits_in f (n / 10) (suc k) (omega arith) fewest)
+-- ---- how many digits
 
--- with the steps of the definition
-pub digits_decimal : (n k : ℕ) → IsDigitCount 10 1 n k → last_digits 10 k n ≡ decimal n
-unfolding decimal
-digits_decimal n k w = digits_in (suc n) n k (omega arith) w
+-- at most as many as a power of ten above the number has zeros
+digits_few : (k n : ℕ) → n < 10 ^ suc k → length (decimal n) ≤ suc k
+digits_few zero n low = rw (one_digit n (omega arith)) (omega arith)
+digits_few (suc k) n low =
+    let shorter : n / 10 < 10 ^ suc k → length (decimal (n / 10)) ≤ suc k = digits_few k (n / 10) in
+    by_order n 10
+    (λ few. rw (one_digit n few) (omega arith))
+    (λ more. rw (last_digit n more) (simp length-append (omega (arith, shorter (omega arith)))))
 
 -- a number of 64 bits has at most 20 digits
-pub fewest_short : (n k : ℕ) → n < 2 ^ 64 → IsDigitCount 10 1 n k → k ≤ 20
-fewest_short n k h w =
-    by_order 20 k
-    (λ more. absurd (omega (arith, w.2 (omega arith), pow-le-pow_right {n = 10} (omega arith) {i = 20} {j = k - 1} (omega arith))))
-    (λ few. few)
+pub decimal_short : (n : ℕ) → n < 2 ^ 64 → length (decimal n) ≤ 20
+decimal_short n h = digits_few 19 n (omega arith)

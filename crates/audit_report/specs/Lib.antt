@@ -2,3 +2,4 @@ pub mod Claims
 pub mod Decimal
 pub mod Put
 pub mod Report
+pub mod Run

@@ -3,11 +3,11 @@
 
 mod put;
 
-ghost use Rattle.std.specs.Prelude.{ℕ, List, ◌∷◌, ◌+◌, ◌<◌, ◌≤◌, OnOk, length};
-ghost use Rattle.std.specs.Io.KnownBytes.{Appends, Consumes, IsAtEnd};
+ghost use Rattle.std.specs.Prelude.{◌∷◌, ◌+◌, ◌≤◌, OnOk, length};
 ghost use Rattle.input.specs.Counts.{IsPrefixLen};
 ghost use Rattle.audit_report.specs.Put.{Put};
 ghost use Rattle.audit_report.specs.Report.{lines_text, report_text, state_line};
+ghost use Rattle.audit_report.specs.Run.{Reported};
 
 use put::{put_number, put_text};
 use std::io;
@@ -35,10 +35,7 @@ pub fn report(input: &[u8], out: &mut [u8; ROOM]) -> usize
 // Reads an input, and writes its report: that of all its bytes, or of its first 65,537, one more than
 // are audited, so that longer input is seen.
 pub fn run<R: Read, W: Write>(reader: &mut R, writer: &mut W) -> io::Result<()>
-    ensures { OnOk result ((b : List ℕ) × (length b ≤ 65537)
-        × Consumes (R.remaining reader.old) (R.remaining reader.new) b
-        × (length b < 65537 → IsAtEnd (R.remaining reader.new))
-        × Appends (W.contents writer.old) (W.contents writer.new) (report_text b)) }
+    ensures { OnOk result (Reported (R.remaining reader.old) (R.remaining reader.new) (W.contents writer.old) (W.contents writer.new)) }
 {
     let mut buffer = [0u8; MOST + 1];
     let got = input::read_full(reader, &mut buffer)?;
