@@ -2,7 +2,7 @@
  * Falconyarn: a verified append-only log with a stratified hash tree.
  *
  * This is its C interface, for the phone, the ring's firmware, auditors and tests in any language,
- * in C99 and C++11. Link libringlog_c.a (made by `rt staticlib ringlog_c`). The library keeps no
+ * in C99 and C++11. Link libringlog_c.a (made by `rt lib` in crates/ringlog_c). The library keeps no
  * state between calls, allocates nothing, and calls no other function than memcpy and memset, so it
  * may be called from any thread, and from several at once. Each call takes less than 8 KiB of
  * stack, as tests/c/stack_use.c measures.

@@ -17,13 +17,13 @@ from pathlib import Path
 
 TOP = Path(__file__).resolve().parent.parent
 COMMAND = TOP / "ringaudit"
-PROGRAM = TOP / "target/bin/ringaudit"
+PROGRAM = TOP / "crates/ringaudit/out/ringaudit"
 SAMPLES = TOP / "samples"
 WHOLE = SAMPLES / "whole.log"
 WHOLE_TEXT = (SAMPLES / "whole.txt").read_text()
 ENTRY = (SAMPLES / "torn.log").read_bytes()[:52]  # a log of one entry
 OVER = "input over 65536 bytes\n"
-UNCHANGED = "echo 'rt: ringaudit proved (unchanged since it was last proved)'"
+UNCHANGED = "echo 'rt: nothing has changed since the last proved build'"
 
 scratch = Path(tempfile.mkdtemp())
 scratch.chmod(0o755)  # root runs one test as nobody
@@ -76,11 +76,11 @@ def stand_in(rt, program=None):
     folder.chmod(0o755)
     shutil.copy(COMMAND, folder)
     script(folder / "tools/rt", rt)
+    (folder / "crates/ringaudit/out").mkdir(parents=True)
     if program is None:
-        (folder / "target/bin").mkdir(parents=True)
-        shutil.copy(PROGRAM, folder / "target/bin")
+        shutil.copy(PROGRAM, folder / "crates/ringaudit/out")
     elif program:
-        script(folder / "target/bin/ringaudit", program)
+        script(folder / "crates/ringaudit/out/ringaudit", program)
     return {"command": folder / "ringaudit", "path": "%s:%s" % (folder / "tools", os.environ["PATH"])}
 
 
@@ -233,22 +233,25 @@ def the_command_can_be_a_link():
 @test
 def a_first_run_tells_each_crate_as_it_is_proved():
     rt = """echo 'fn sha256::sha256: proved'
-        echo 'rt: sha256 proved (54 s)'
+        echo 'crate sha256: modules loaded=0 checked=1034'
+        echo 'logic=proved functions=41'
         for turn in $(seq 100); do [ -e go ] || sleep 0.1; done
         [ -e go ] || exit 1
-        echo 'rt: slate proved (unchanged since it was last proved)'
-        mkdir -p target/bin && cp '%s' target/bin/
-        echo 'rt: ringaudit proved (8 s)'
-        echo "rt: ringaudit ran, and wrote what its file 'stdout' has (0 s)"
-        echo 'rt: ok, 3 crates proved'""" % PROGRAM
+        echo 'rt: slate: begins with what a check kept'
+        cp '%s' out/
+        echo 'library sha256: modules loaded=851 checked=0'
+        echo 'crate ringaudit: modules loaded=0 checked=20'
+        echo 'logic=proved functions=1'
+        echo 'rt: running out/ringaudit' >&2
+        out/ringaudit""" % PROGRAM
     first = stand_in(rt, program="")
     run = started(WHOLE, **first)
     said = [run.stderr.readline().decode() for _ in range(2)]
-    (first["command"].parent / "go").touch()
+    (first["command"].parent / "crates/ringaudit/go").touch()
     out, err = run.communicate(timeout=30)
     assert (run.returncode, out.decode()) == (0, WHOLE_TEXT), (run.returncode, out)
-    assert "first run" in said[0] and said[1] == "ringaudit: sha256 proved (54 s)\n", said
-    assert err.decode() == "ringaudit: ringaudit proved (8 s)\n", err
+    assert "first run" in said[0] and said[1] == "ringaudit: crate sha256 proved\n", said
+    assert err.decode() == "ringaudit: crate ringaudit proved\n", err
 
 
 @test
@@ -276,7 +279,7 @@ def without_a_proof_no_program_is_run():
 def without_rt_no_program_is_run():
     tools = scratch / "tools"
     tools.mkdir()
-    for name in ["sh", "cat", "dirname", "flock", "head", "readlink", "tr"]:
+    for name in ["sh", "cat", "dirname", "flock", "readlink", "tr"]:
         (tools / name).symlink_to(shutil.which(name))
     expect(call(WHOLE, **{**stand_in(""), "path": tools}), 2, "")
 

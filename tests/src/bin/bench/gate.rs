@@ -4,17 +4,16 @@ use crate::library::from_top;
 use crate::text::{grouped, Table};
 use std::fs;
 
-/// From the top folder. A line has a kind, a name and seconds, with tabs between them: the proof of a
-/// crate, the trial of one must-fail edit of a crate, or a part of the gate.
+/// From the top folder. A line has a kind, a name and a number, with tabs between them: how many
+/// must-fail edits of a crate were refused, or the seconds of a part of the gate.
 const TIMES: &str = "target/gate.txt";
 
-/// One line: kind, name and seconds.
+/// One line: kind, name and number.
 type Line<'a> = (&'a str, &'a str, u64);
 
-/// The seconds of the lines of this kind and name.
-fn seconds<'a>(lines: &'a [Line], kind: &'a str, name: &'a str) -> impl Iterator<Item = u64> + 'a {
-    let wanted = move |line: &&Line| line.0 == kind && line.1 == name;
-    lines.iter().filter(wanted).map(|line| line.2)
+/// The lines of this kind.
+fn of_kind<'a>(lines: &'a [Line], kind: &'a str) -> impl Iterator<Item = &'a Line<'a>> + 'a {
+    lines.iter().filter(move |line| line.0 == kind)
 }
 
 fn in_seconds(count: u64) -> String {
@@ -23,32 +22,26 @@ fn in_seconds(count: u64) -> String {
 
 fn parse(line: &str) -> Option<Line<'_>> {
     match line.split('\t').collect::<Vec<_>>()[..] {
-        [kind, name, seconds] => Some((kind, name, seconds.parse().ok()?)),
+        [kind, name, number] => Some((kind, name, number.parse().ok()?)),
         _ => None,
     }
 }
 
-/// A crate a line, in the order of their proofs, and their sums.
+/// A crate with edits a line, and their sum.
 fn by_crate(lines: &[Line]) -> Table {
-    let mut table = Table::new(&["Crate", "proof", "must-fail edits", "their trials"]);
-    let mut sums = (0, 0, 0);
-    let cells = |name: &str, (proof, edits, trials)| {
-        let name = name.to_string();
-        vec![name, in_seconds(proof), grouped(edits), in_seconds(trials)]
-    };
-    for (_, name, proof) in lines.iter().filter(|line| line.0 == "proof") {
-        let edits = seconds(lines, "edit", name).count() as u64;
-        let trials = seconds(lines, "edit", name).sum();
-        table.push(cells(name, (*proof, edits, trials)));
-        sums = (sums.0 + proof, sums.1 + edits, sums.2 + trials);
+    let mut table = Table::new(&["Crate", "must-fail edits"]);
+    let mut sum = 0;
+    for (_, name, edits) in of_kind(lines, "edits") {
+        table.push(vec![name.to_string(), grouped(*edits)]);
+        sum += edits;
     }
-    table.push(cells("sum", sums));
+    table.push(vec!["sum".to_string(), grouped(sum)]);
     table
 }
 
 fn by_part(lines: &[Line]) -> Table {
     let mut table = Table::new(&["Part of the gate", "time"]);
-    for (_, name, seconds) in lines.iter().filter(|line| line.0 == "part") {
+    for (_, name, seconds) in of_kind(lines, "part") {
         table.push(vec![name.to_string(), in_seconds(*seconds)]);
     }
     table

@@ -6,7 +6,7 @@ use std::collections::BTreeSet;
 use std::{env, fs};
 
 /// From the top folder.
-pub const LIBRARY: &str = "target/staticlib/libringlog_c.a";
+pub const LIBRARY: &str = "crates/ringlog_c/out/libringlog_c.a";
 
 /// A file of the repository, by its path from the top folder.
 pub fn from_top(path: &str) -> String {

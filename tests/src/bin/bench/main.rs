@@ -1,6 +1,6 @@
 //! What README shows of time, stack and size, in one run: the time of each call, beside plain
 //! Rust's for SHA-256, append, audit, search and the RFC 6962 edition; the stack of each call; the
-//! size of the library; and the time of the gate by crate. It prints Markdown.
+//! size of the library; and the time of the gate. It prints Markdown.
 //!
 //! The time of a call is the processor's: an audit of a long log takes longer than the system lets a
 //! process run at a stretch where others want the machine.
@@ -31,9 +31,9 @@ Each call runs on a painted stack of its own (tests/c/stack_use.c). Cut, value a
 way, to entry 1. The logs of a search differ there; with 2,049 taps in the second, 24 entries of the
 first are read. Path and consistency proof are the longest ones.";
 
-const SIDE_BY_SIDE: &str = "\
-rt proves crates, and tries edits, side by side on the machine's cores, so that the sums can be above the
-time of rt ci.";
+const KEPT: &str = "\
+rt proves crates, and tries edits, side by side on the machine's cores, and says no time of each. What an
+earlier run on the machine passed is not proved again.";
 
 fn heading(title: &str) {
     println!("\n### {title}\n");
@@ -69,6 +69,6 @@ fn main() {
     print(stack::table());
     heading("Size of the library");
     print(library::table());
-    heading("Time of the gate by crate");
-    print(gate::tables().map(|(crates, parts)| format!("{crates}\n{SIDE_BY_SIDE}\n\n{parts}")));
+    heading("Time of the gate");
+    print(gate::tables().map(|(crates, parts)| format!("{crates}\n{KEPT}\n\n{parts}")));
 }
