@@ -1,5 +1,5 @@
 -- The digits of the tens, and the last digit right behind them.
-use Rattle.std.proofs.Common.{◌≡◌, ◌+◌, ◌/◌, ◌≤◌, length, ap, arith, rules}
+use Rattle.std.proofs.Common.{◌≡◌, ◌+◌, ◌/◌, length, ap, arith, rules}
 use lib.ListN.{length-append}
 use Rattle.audit_report.specs.Decimal.{decimal}
 use Rattle.audit_report.proofs.Decimals.{last_digit, one_digit}
