@@ -3,7 +3,7 @@
 
 A claim is a type without arguments in a specs/Claims.antt, or in a specs/BenchSheet.antt: `abbrev pub NAME :
 Type 0`. What takes arguments there, or is no type, is a part of claims. A proof is a declaration of type `claims.NAME`,
-with its definition, in a file that has the line `use Rattle·CRATE·specs.specs.Claims as claims`; or of type `NAME`, where
+with its definition, in a file that has the line `use Rattle.CRATE.specs.Claims as claims`; or of type `NAME`, where
 such a line brings that name itself.
 
 What is declared so is proved by the crate's check. That refuses a hole, an axiom, a declaration without a definition, a
@@ -52,7 +52,7 @@ def files_of_proofs(crate):
 def spellings(lines, crate, file, claim):
     """How the claim is written in a file of proofs, by the lines that bring it."""
     for line in lines:
-        brought = re.fullmatch(r"use Rattle·%s·specs\.specs\.%s(?: as (\w+)|\.\{(.*)\})" % (crate, file), line)
+        brought = re.fullmatch(r"use Rattle\.%s\.specs\.%s(?: as (\w+)|\.\{(.*)\})" % (crate, file), line)
         if brought and brought[1]:
             yield "%s.%s" % (brought[1], claim)
         elif brought and claim in brought[2].split(", "):

@@ -122,12 +122,18 @@ def check_demands(document):
         problem(document, "not listed: the claim %s/%s %s" % claim)
 
 
+def names_given(text):
+    """The names that the `pub use` lines of a root file give out."""
+    lines = re.findall(r"(?m)^pub use \w+::(?:(\w+)|\{([\w,\s]+)\});", text)
+    return {name for line in lines for part in line for name in re.findall(r"\w+", part)}
+
+
 def public_calls():
     """Each function that the users' crates give out, with its contract up to the body."""
     calls = {}
     for pattern in USERS_MODULES:
         text = text_of(pattern)
-        given = set(re.findall(r"(?m)^pub use \w+::(\w+);", text_of(pattern.split("/")[0] + "/src/lib.rt")))
+        given = names_given(text_of(pattern.split("/")[0] + "/src/lib.rt"))
         in_lib = pattern.endswith("lib.rt")
         for name, contract in re.findall(r"^pub (?:extern \"C\" )?fn (\w+)(.*?)^\{", text, re.S | re.M):
             if in_lib or name in given:

@@ -1,7 +1,7 @@
 -- What is used is a number of the buffer's bytes.
-use Rattle.std.proofs.Common.{◌≡◌, ◌-◌, length}
+use Rattle.std.proofs.Common.{◌≡◌, length}
 use Rattle.bench_sheet.specs.Counts.{IsPrefixLen}
 use Rattle.bench_sheet.proofs.appended.Given as goal
 
-abbrev pub invariant-loop-_i : goal.invariant-loop-_i
-invariant-loop-_i l = (length l.buffer ≡ length l.initial.buffer) × IsPrefixLen l.used l.buffer
+abbrev pub invariant-loop-i : goal.invariant-loop-i
+invariant-loop-i l = (length l.buffer ≡ length l.initial.buffer) × IsPrefixLen l.used l.buffer
