@@ -20,5 +20,6 @@ pub mod Lists
 pub mod Outside
 pub mod PartialTree
 pub mod Tops
+pub mod WayClaims
 pub mod WayUp
 pub mod Ways

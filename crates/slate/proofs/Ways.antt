@@ -94,7 +94,7 @@ module _ (pre : Rule) (vs : List (List ℕ)) (n t : ℕ) where
   path_highest : (x h : ℕ) → path_from pre vs x h t ≡ path_from pre vs x (highest x h) t
   path_highest x = to_highest x (λ (q : ℕ). path_from pre vs x q t) (λ p d. path_none pre vs x p t d)
 
-  way_path : {j h l : ℕ} {s : List Address} → Way n j h l s → base (j - 1) h ≤ t → t ≤ j - 1
+  pub way_path : {j h l : ℕ} {s : List Address} → Way n j h l s → base (j - 1) h ≤ t → t ≤ j - 1
       → path_from pre vs (j - 1) h t ++ digests pre vs s ≡ path_from pre vs (n - 1) max_height t
   unfolding base left
   way_path at_top low high = append-nil (path_from pre vs (n - 1) (highest (n - 1) max_height) t) ∙ sym (path_highest (n - 1) max_height)
@@ -106,10 +106,6 @@ module _ (pre : Rule) (vs : List (List ℕ)) (n t : ℕ) where
       rw (← left_top pre vs (i - 1) p at.node, ← path_highest (i - 1) p, ← append_assoc)
       (rw (← path_right pre vs (i - 1) p t at.node a.1)
       (way_path up a.0 high))
-
-pub path_siblings : claims.PathSiblings
-unfolding path_from
-path_siblings pre vs i l s way = sym (way_path pre vs (length vs) (i - 1) way (omega (arith, base_zero (i - 1))) (omega arith))
 
 pub way_moves : claims.WayMoves
 unfolding hops_from lefts_from
@@ -146,7 +142,7 @@ module _ (pre : Rule) (n t : ℕ) (d proof : List ℕ) where
   fold_highest : (x h : ℕ) → fold_from pre x h t d proof ≡ fold_from pre x (highest x h) t d proof
   fold_highest x = to_highest x (λ (q : ℕ). fold_from pre x q t d proof) (λ p z. fold_none pre x p t d proof z)
 
-  way_fold : {j h l : ℕ} {s : List Address} (way : Way n j h l s) → base (j - 1) h ≤ t → t ≤ j - 1
+  pub way_fold : {j h l : ℕ} {s : List Address} (way : Way n j h l s) → base (j - 1) h ≤ t → t ≤ j - 1
       → fold_from pre (n - 1) max_height t d proof
       ≡ fold_up pre way (fold_from pre (j - 1) h t d proof) (drop (32 * hops_from (j - 1) h t) proof)
   unfolding base left fold_up
@@ -160,11 +156,6 @@ module _ (pre : Rule) (n t : ℕ) (d proof : List ℕ) where
       rw (← hops_highest (i - 1) t p, ← fold_highest (i - 1) p)
       (rw (behind _ _ proof (moves_right (i - 1) p t at.node a.1), ← fold_right pre (i - 1) p t d proof at.node a.1)
       (way_fold up a.0 high))
-
-pub fold_steps : claims.FoldSteps
-unfolding fold_from hops_from
-fold_steps pre n i l s way v proof =
-    way_fold pre n (i - 1) (sha256 (pre 0 ∷ v)) proof way (omega (arith, base_zero (i - 1))) (omega arith)
 
 -- ---- there is a way from each leaf
 
