@@ -11,4 +11,5 @@ pub mod LogDowns
 pub mod LogSearch
 pub mod Repairs
 pub mod Searches
+pub mod StopClaims
 pub mod Stops

@@ -190,7 +190,7 @@ down_stops b c o q x (suc p) s k n e =
         stop_left b c o q x p s k d l m eu ev
         (rest l m (left_differ b c o q x p l m eu ev f) (read _ _ (down b c l m (left x p) p) h))
 
--- ---- the claims
+-- ---- the turns
 
 pub down_turns : claims.DownTurns
 unfolding left base down
@@ -200,21 +200,3 @@ down_turns b c o q i = (
   λ p d n l r f s t e g qs rs h. down_left b c o q (i - 1) p d n l r f s ∙ ap (reading_both _ _) h,
   λ p d e n. down_right b c o q (i - 1) p d e n ∙ down_highest b c o q (i - 1) p,
 )
-
-pub down_refused : claims.DownRefused
-down_refused b c o q i h s k n e =
-    let z = down_stops b c o q (i - 1) h s k n e in
-    let y : suc z.place - 1 ≡ z.place = omega arith in (
-      suc z.place,
-      z.height,
-      z.first,
-      z.second,
-      z.first_reads,
-      z.second_reads,
-      z.under,
-      rw y z.set,
-      rw y z.first_run,
-      rw y z.second_run,
-      rw y z.differ,
-      rw y z.why,
-    )
