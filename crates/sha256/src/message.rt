@@ -8,7 +8,7 @@ ghost use Rattle.sha256.specs.Tail.{Ends};
 pub fn join(a: u8, b: u8, c: u8, d: u8) -> u32
     ensures { result ≡ fips.join a b c d }
 {
-    (a as u32) * 16777216 + (b as u32) * 65536 + (c as u32) * 256 + (d as u32)
+    u32::from_be_bytes([a, b, c, d])
 }
 
 // The number in the four bytes from j on. Internal: they lie inside m.
