@@ -279,7 +279,7 @@ def without_a_proof_no_program_is_run():
 def without_rt_no_program_is_run():
     tools = scratch / "tools"
     tools.mkdir()
-    for name in ["sh", "cat", "dirname", "flock", "readlink", "tr"]:
+    for name in ["sh", "cat", "dirname", "flock", "head", "readlink", "tr"]:
         (tools / name).symlink_to(shutil.which(name))
     expect(call(WHOLE, **{**stand_in(""), "path": tools}), 2, "")
 
