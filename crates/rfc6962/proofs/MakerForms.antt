@@ -1,6 +1,6 @@
 -- The path and the consistency proof, as the code makes them of a log that is opened whole.
 -- Assumes nothing.
-use mathlib.Core.Bool.{true, false}
+use mathlib.Core.Bool.{Bool, true, false}
 use mathlib.Core.List.{List}
 use mathlib.Core.Path.{◌≡◌, sym, ap, ◌∙◌}
 use Prim.Native.Nat.{ℕ, suc, ◌+◌, ◌*◌, ◌-◌, ◌^◌, ◌≤◌, ◌<◌}
@@ -34,6 +34,10 @@ pub record There (b : List ℕ) (o n i : ℕ) : Type 0 where
   pub bytes : Bytes b
   pub opens : whole_log b ≡ opened.Log o n
   pub within : is_index i n ≡ true
+
+-- by the code's opening and its test of the index
+pub there : {b : List ℕ} {o n i : ℕ} {t : Bool} → Bytes b → opened.Log o n ≡ whole_log b → t ≡ is_index i n → t ≡ true → There b o n i
+there bytes opens is good = record { bytes = bytes; opens = sym opens; within = sym is ∙ good }
 
 -- r bytes d are written
 answers_written : (out : List ℕ) (made : Outcome) (d e : List ℕ) (r : ℕ) → made ≡ written d → r ≡ 0 + length d → e ≡ write_at out 0 d

@@ -71,6 +71,10 @@ node_digit x (suc p) n f = let e : suc p - 1 ≡ p = omega arith in rw e n
 pub highest_digit : (x h k : ℕ) → k ≡ highest x h → (k ≡ 0 → ⊥) → digit x (k - 1) ≡ 1
 highest_digit x h k e f = node_digit x k (rw e (highest_node x h)) f
 
+-- and k is at most h
+pub highest_height : (x h k : ℕ) → k ≡ highest x h → k ≤ h
+highest_height x h k e = omega (arith, e, highest_le x h)
+
 -- what stays the same from height p + 1 to p where digit p is not set is the same at the highest node
 pub to_highest {ℓ} : {A : Type ℓ} (x : ℕ) (f : ℕ → A) → ((p : ℕ) → digit x p ≡ 0 → f (suc p) ≡ f p) → (h : ℕ) → f h ≡ f (highest x h)
 unfolding highest

@@ -1,21 +1,11 @@
 -- Test by test, by the laws of ProveForms.antt.
 -- Assumes nothing.
-use Rattle.std.proofs.Common.{◌≡◌, ℕ, Bool, true, List, refl, sym, ◌∙◌, arith}
+use Rattle.std.proofs.Common.{refl, sym, ◌∙◌, arith}
 use Rattle.slate.specs.Digits.{max_height}
-use Rattle.slate.specs.Index.{is_index}
-use Rattle.entry.specs.Shape.{opened_log}
-use Rattle.entry.specs.declared.Opened.TheVariants as opened
-use Rattle.slate.proofs.Indexes.{index_range}
-use Rattle.entry.proofs.Reached.{Indexed, last_inside, reached_arrives, walk_reached, walk_stopped}
+use Rattle.entry.proofs.Reached.{indexed, last_inside, reached_arrives, walk_reached, walk_stopped}
 use Rattle.ringlog.proofs.Outcomes.{outcome_refused}
 use Rattle.inclusion.proofs.ProveForms.{no_index, no_log, no_room, proof_stopped, proof_written, siblings_room}
 use Rattle.inclusion.proofs.proving.proof.Goals as goal
-
--- the log opened and has a value of this index
-there : {b : List ℕ} {o n i : ℕ} {t : Bool} → opened.Log o n ≡ opened_log b → t ≡ is_index i n → t ≡ true → Indexed b o n i
-there opens is good =
-    let r = index_range _ _ (sym is ∙ good) in
-    record { opens = sym opens; first = r.0; high = r.1 }
 
 pub returns-in_default : goal.returns-in_default
 returns-in_default c =
@@ -29,41 +19,41 @@ returns-then-not-is_index c =
     record { result_value = it.0; output_after = it.1 }
 
 pub overflow_cast-i : goal.overflow_cast-i
-overflow_cast-i c = omega (arith, (there c.in-Log.ensures.value c.is_index.ensures c.if-not-is_index.false).high)
+overflow_cast-i c = omega (arith, (indexed c.in-Log.ensures.value c.is_index.ensures c.if-not-is_index.false).high)
 
 pub hops-requires : goal.hops-requires
-hops-requires c = (there c.in-Log.ensures.value c.is_index.ensures c.if-not-is_index.false).first
+hops-requires c = (indexed c.in-Log.ensures.value c.is_index.ensures c.if-not-is_index.false).first
 
 pub returns-then-output-hops : goal.returns-then-output-hops
 returns-then-output-hops c =
-    let it = outcome_refused _ _ _ _ (no_room (there c.in-Log.ensures.value c.is_index.ensures c.if-not-is_index.false) _ _ c.hops.ensures c.if-output-hops.true) in
+    let it = outcome_refused _ _ _ _ (no_room (indexed c.in-Log.ensures.value c.is_index.ensures c.if-not-is_index.false) _ _ c.hops.ensures c.if-output-hops.true) in
     record { result_value = it.0; output_after = it.1 }
 
 pub overflow_sub-count : goal.overflow_sub-count
 overflow_sub-count c =
-    let a = there c.in-Log.ensures.value c.is_index.ensures c.if-not-is_index.false in
+    let a = indexed c.in-Log.ensures.value c.is_index.ensures c.if-not-is_index.false in
     omega (arith, a.first, a.high)
 
 pub overflow_sub-i : goal.overflow_sub-i
-overflow_sub-i c = (there c.in-Log.ensures.value c.is_index.ensures c.if-not-is_index.false).first
+overflow_sub-i c = (indexed c.in-Log.ensures.value c.is_index.ensures c.if-not-is_index.false).first
 
 pub overflow_sub-count-in-Arrived : goal.overflow_sub-count-in-Arrived
 overflow_sub-count-in-Arrived c =
-    let a = there c.in-Log.ensures.value c.is_index.ensures c.if-not-is_index.false in
+    let a = indexed c.in-Log.ensures.value c.is_index.ensures c.if-not-is_index.false in
     omega (arith, a.first, a.high)
 
 pub overflow_sub-i-in-Arrived : goal.overflow_sub-i-in-Arrived
-overflow_sub-i-in-Arrived c = (there c.in-Log.ensures.value c.is_index.ensures c.if-not-is_index.false).first
+overflow_sub-i-in-Arrived c = (indexed c.in-Log.ensures.value c.is_index.ensures c.if-not-is_index.false).first
 
 pub descend-requires : goal.descend-requires
 unfolding max_height
 descend-requires c =
-    record { inside = last_inside (there c.in-Log.ensures.value c.is_index.ensures c.if-not-is_index.false); height_le_max_height = omega arith }
+    record { inside = last_inside (indexed c.in-Log.ensures.value c.is_index.ensures c.if-not-is_index.false); height_le_max_height = omega arith }
 
 pub returns-in-Refused : goal.returns-in-Refused
 unfolding max_height
 returns-in-Refused c =
-    let a = there c.in-Log.ensures.value c.is_index.ensures c.if-not-is_index.false in
+    let a = indexed c.in-Log.ensures.value c.is_index.ensures c.if-not-is_index.false in
     let it =
     outcome_refused _ _ _ _ (proof_stopped a _ _ c.hops.ensures c.if-output-hops.false _ (walk_stopped a _ c.in-Refused.ensures _ refl)) in
     record { result_value = it.0; output_after = it.1 }
@@ -71,7 +61,7 @@ returns-in-Refused c =
 pub put_siblings-requires : goal.put_siblings-requires
 unfolding max_height
 put_siblings-requires c =
-    let a = there c.in-Log.ensures.value c.is_index.ensures c.if-not-is_index.false in
+    let a = indexed c.in-Log.ensures.value c.is_index.ensures c.if-not-is_index.false in
     let r = walk_reached a _ c.in-Arrived.ensures _ _ refl in
     record {
       inside = r.last;
@@ -83,7 +73,7 @@ put_siblings-requires c =
 pub returns-in-Arrived : goal.returns-in-Arrived
 unfolding max_height
 returns-in-Arrived c =
-    let a = there c.in-Log.ensures.value c.is_index.ensures c.if-not-is_index.false in
+    let a = indexed c.in-Log.ensures.value c.is_index.ensures c.if-not-is_index.false in
     let r = walk_reached a _ c.in-Arrived.ensures _ _ refl in
     let it =
     proof_written a _ _ c.hops.ensures c.if-output-hops.false _ r _ _ c.put_siblings.ensures.value _ c.put_siblings.ensures.out_after in

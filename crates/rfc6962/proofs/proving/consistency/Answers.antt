@@ -1,17 +1,9 @@
 -- Test by test, by the laws of MakerForms.antt.
 -- Assumes nothing.
-use Rattle.std.proofs.Common.{◌≡◌, ℕ, ◌*◌, Bool, true, List, length, sym, ap, ◌∙◌, arith}
-use Rattle.slate.specs.Bytes.{Bytes}
+use Rattle.std.proofs.Common.{ℕ, ◌*◌, length, sym, ap, ◌∙◌, arith}
 use Rattle.slate.specs.Digits.{max_height}
-use Rattle.slate.specs.Index.{is_index}
-use Rattle.entry.specs.declared.Opened.TheVariants as opened
-use Rattle.rfc6962.specs.Whole.{whole_log}
-use Rattle.rfc6962.proofs.MakerForms.{There, few, first, high, made_2, made_6, made_8, made_done, proof_digests, proof_size, stands}
+use Rattle.rfc6962.proofs.MakerForms.{few, first, high, made_2, made_6, made_8, made_done, proof_digests, proof_size, stands, there}
 use Rattle.rfc6962.proofs.proving.consistency.Goals as goal
-
--- the log opened and has a value of this index
-there : {b : List ℕ} {o n i : ℕ} {t : Bool} → Bytes b → opened.Log o n ≡ whole_log b → t ≡ is_index i n → t ≡ true → There b o n i
-there bytes opens is good = record { bytes = bytes; opens = sym opens; within = sym is ∙ good }
 
 pub returns-in_default : goal.returns-in_default
 returns-in_default c =

@@ -3,21 +3,14 @@
 use Rattle.std.proofs.Common.{◌≡◌, ℕ, ◌-◌, ◌≤◌, Bool, List, sym, ◌∙◌, arith}
 use Rattle.slate.specs.Address.{highest}
 use Rattle.slate.specs.Bytes.{same}
-use Rattle.slate.specs.Digits.{digit, max_height}
+use Rattle.slate.specs.Digits.{max_height}
 use Rattle.entry.specs.Read.{left_digest_at}
-use Rattle.slate.proofs.Addresses.{highest_digit, highest_le}
+use Rattle.slate.proofs.Addresses.{highest_digit, highest_height}
 use Rattle.entry.proofs.StepForms.{step_inside}
 use Rattle.split.proofs.DownForms.{Node, at_leaf, both_equal, down_reads_le, first_refused, second_refused, to_right, under_leaf, under_refused}
 use Rattle.split.proofs.below.+down.Goals as goal
 
--- the highest node has height p + 1
-set : (x h k : ℕ) → k ≡ highest x h → (k ≡ 0 → ⊥) → digit x (k - 1) ≡ 1
-set x h k is some = highest_digit _ _ _ is some
-
-low : (x h k : ℕ) → k ≡ highest x h → k ≤ h
-low x h k is = omega (arith, is, highest_le x h)
-
--- and the test of its left digests says v
+-- the highest node has height k, and the test of its left digests says v
 tested : (b c : List ℕ) (o q x h k : ℕ) → k ≡ highest x h → (k ≡ 0 → ⊥) → (r v : Bool)
     → r ≡ same (left_digest_at b o x (k - 1)) (left_digest_at c q x (k - 1)) → r ≡ v → Node b c o q x h k v
 tested b c o q x h k is some r v test e = record { top = is; high = some; lefts = sym test ∙ e }
@@ -31,16 +24,16 @@ returns-then-top-eq0 t c = at_leaf _ _ _ _ _ _ _ c.highest-top.ensures c.if-top-
 
 pub same_left-requires : goal.same_left-requires
 same_left-requires t c =
-    let le : c.highest-top.result ≤ c.args.height = low _ _ _ c.highest-top.ensures in
+    let le : c.highest-top.result ≤ c.args.height = highest_height _ _ _ c.highest-top.ensures in
     record {
       inside = c.requires.inside;
       inside_2 = c.requires.inside_2;
-      p_lt_max_height = (omega arith, set _ _ _ c.highest-top.ensures c.if-top-eq0.false);
+      p_lt_max_height = (omega arith, highest_digit _ _ _ c.highest-top.ensures c.if-top-eq0.false);
     }
 
 pub same_top-requires : goal.same_top-requires
 same_top-requires t c =
-    let le : c.highest-top.result ≤ c.args.height = low _ _ _ c.highest-top.ensures in
+    let le : c.highest-top.result ≤ c.args.height = highest_height _ _ _ c.highest-top.ensures in
     record { inside = c.requires.inside; inside_2 = c.requires.inside_2; height_le_max_height = omega arith }
 
 -- ---- the left digests are equal
@@ -52,7 +45,7 @@ returns-then-same_top t c =
 
 pub down-requires : goal.down-requires
 down-requires t c =
-    let le : c.highest-top.result ≤ c.args.height = low _ _ _ c.highest-top.ensures in
+    let le : c.highest-top.result ≤ c.args.height = highest_height _ _ _ c.highest-top.ensures in
     (omega arith, (c.requires.inside, (c.requires.inside_2, omega arith)))
 
 pub returns-then-same_left : goal.returns-then-same_left
@@ -64,24 +57,24 @@ returns-then-same_left t c =
 
 pub left_step-requires : goal.left_step-requires
 left_step-requires t c =
-    let le : c.highest-top.result ≤ c.args.height = low _ _ _ c.highest-top.ensures in
-    record { inside = c.requires.inside; p_lt_max_height = (omega arith, set _ _ _ c.highest-top.ensures c.if-top-eq0.false) }
+    let le : c.highest-top.result ≤ c.args.height = highest_height _ _ _ c.highest-top.ensures in
+    record { inside = c.requires.inside; p_lt_max_height = (omega arith, highest_digit _ _ _ c.highest-top.ensures c.if-top-eq0.false) }
 
 pub left_step-requires-in-To : goal.left_step-requires-in-To
 left_step-requires-in-To t c =
-    let le : c.highest-top.result ≤ c.args.height = low _ _ _ c.highest-top.ensures in
-    record { inside = c.requires.inside_2; p_lt_max_height = (omega arith, set _ _ _ c.highest-top.ensures c.if-top-eq0.false) }
+    let le : c.highest-top.result ≤ c.args.height = highest_height _ _ _ c.highest-top.ensures in
+    record { inside = c.requires.inside_2; p_lt_max_height = (omega arith, highest_digit _ _ _ c.highest-top.ensures c.if-top-eq0.false) }
 
 pub left-requires : goal.left-requires
 unfolding max_height
 left-requires t c = record {
-  p_bound = omega (arith, low _ _ _ c.highest-top.ensures, c.requires.height_le_max_height);
-  p_value = set _ _ _ c.highest-top.ensures c.if-top-eq0.false;
+  p_bound = omega (arith, highest_height _ _ _ c.highest-top.ensures, c.requires.height_le_max_height);
+  p_value = highest_digit _ _ _ c.highest-top.ensures c.if-top-eq0.false;
 }
 
 pub down-requires-in-To-left_step : goal.down-requires-in-To-left_step
 down-requires-in-To-left_step t c =
-    let le : c.highest-top.result ≤ c.args.height = low _ _ _ c.highest-top.ensures in (
+    let le : c.highest-top.result ≤ c.args.height = highest_height _ _ _ c.highest-top.ensures in (
       omega arith,
       (
         step_inside _ _ _ _ _ _ _ c.left_step.ensures c.in-To.is c.left.ensures,
@@ -93,13 +86,13 @@ pub overflow_add-result : goal.overflow_add-result
 unfolding max_height
 overflow_add-result t c =
     let le = down_reads_le _ _ _ _ _ _ _ _ _ _ _ _ c.down-in-To-left_step.ensures c.in-Leaf.is in
-    omega (arith, le.0, low _ _ _ c.highest-top.ensures, c.requires.height_le_max_height)
+    omega (arith, le.0, highest_height _ _ _ c.highest-top.ensures, c.requires.height_le_max_height)
 
 pub overflow_add-result-in-Leaf : goal.overflow_add-result-in-Leaf
 unfolding max_height
 overflow_add-result-in-Leaf t c =
     let le = down_reads_le _ _ _ _ _ _ _ _ _ _ _ _ c.down-in-To-left_step.ensures c.in-Leaf.is in
-    omega (arith, le.1, low _ _ _ c.highest-top.ensures, c.requires.height_le_max_height)
+    omega (arith, le.1, highest_height _ _ _ c.highest-top.ensures, c.requires.height_le_max_height)
 
 pub returns-in-Refused : goal.returns-in-Refused
 returns-in-Refused t c =
