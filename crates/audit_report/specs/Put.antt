@@ -1,4 +1,4 @@
--- What the functions that write a text piece by piece promise.
+-- A text in a buffer, from a place on.
 use Rattle.std.specs.Prelude.{List, ◌≡◌, ℕ, ◌+◌, length}
 use Rattle.entry.specs.Write.{write_at}
 

@@ -6,19 +6,25 @@
 
 mod print;
 
-ghost use Rattle.bench_sheet.specs.Counts.{IsPrefixLen};
+ghost use Rattle.std.specs.Prelude.{IfSome};
+ghost use Rattle.input.specs.Counts.{IsPrefixLen};
 
 use entry::kind::Kind;
-use inclusion::{proof, value, value_number};
-use print::{print_answer, print_line, print_moves, print_number, print_refusal, print_text};
-use ringlog::{Counted, append, cut};
+use inclusion::{proof, value, value_place};
+use print::{print_answer, print_checked, print_kind, print_line, print_moves};
+use ringlog::{append, cut};
 use split::repair;
 use std::io;
 
-// The lengths of logs of seven taps and of 4,096 tickets.
+// The lengths of logs of seven taps, of eight, and of 4,096 tickets.
 const SEVEN_TAPS: usize = 994;
 
+const EIGHT_TAPS: usize = 1256;
+
 const TICKETS: usize = 2097152;
+
+// A tap with a body of zero bytes.
+const TAP: [u8; 9] = [0x10, 0, 0, 0, 0, 0, 0, 0, 0];
 
 fn main(rt: HostRuntime) -> io::Result<()> {
     run_kinds(&rt)?;
@@ -34,54 +40,34 @@ fn main(rt: HostRuntime) -> io::Result<()> {
     run_empty(&rt)
 }
 
-// A tap with a body of zero bytes.
-fn tap() -> [u8; 9] {
-    [0x10, 0, 0, 0, 0, 0, 0, 0, 0]
-}
-
-// The used that an append answers; 0 where it is refused.
-fn used_after(buffer: &mut [u8], used: usize, item: &[u8]) -> usize
-    ensures { IsPrefixLen result buffer.new }
+// The used that an append answers; none where it is refused.
+fn used_after(buffer: &mut [u8], used: usize, item: &[u8]) -> Option<usize>
+    ensures { IfSome result (λ end. IsPrefixLen end buffer.new) }
 {
-    let Counted::Done(end) = append(buffer, used, item) else {
-        return 0;
-    };
+    let end = append(buffer, used, item).ok()?;
     if buffer.len() < end {
-        return 0;
+        return None;
     }
-    end
+    Some(end)
 }
 
-// The used after so many appends of the item, from an empty log on; 0 where one is refused.
-fn appended(buffer: &mut [u8], item: &[u8], count: usize) -> usize
-    ensures { IsPrefixLen result buffer.new }
+// The used after so many appends of the item, from an empty log on; none where one is refused.
+fn appended(buffer: &mut [u8], item: &[u8], count: usize) -> Option<usize>
+    ensures { IfSome result (λ used. IsPrefixLen used buffer.new) }
 {
     let mut used = 0;
     for _i in 0..count {
-        used = used_after(buffer, used, item);
-        if used == 0 {
-            return 0;
-        }
+        used = used_after(buffer, used, item)?;
     }
-    used
+    Some(used)
 }
 
 // The table of items: each kind of the list, and the length of its body.
 fn run_kinds(rt: &impl Print) -> io::Result<()> {
-    let kinds = Kind::all();
-    print_kind(rt, kinds[0])?;
-    print_kind(rt, kinds[1])?;
-    print_kind(rt, kinds[2])?;
-    print_kind(rt, kinds[3])?;
-    print_kind(rt, kinds[4])?;
-    print_kind(rt, kinds[5])?;
-    print_kind(rt, kinds[6])
-}
-
-fn print_kind(rt: &impl Print, byte: u8) -> io::Result<()> {
-    print_text(rt, b"kind ")?;
-    print_number(rt, byte as usize)?;
-    print_line(rt, b": body ", (Kind { byte: byte }).body_len())
+    for kind in Kind::all() {
+        print_kind(rt, kind)?;
+    }
+    Ok(())
 }
 
 fn run_moves(rt: &impl Print) -> io::Result<()> {
@@ -94,108 +80,76 @@ fn run_moves(rt: &impl Print) -> io::Result<()> {
 }
 
 fn run_eight_taps(rt: &impl Print) -> io::Result<()> {
-    print_text(rt, b"eight taps end at")?;
-    print_end(rt, 1)?;
-    print_end(rt, 2)?;
-    print_end(rt, 3)?;
-    print_end(rt, 4)?;
-    print_end(rt, 5)?;
-    print_end(rt, 6)?;
-    print_end(rt, 7)?;
-    print_end(rt, 8)?;
-    print_text(rt, b"\n")
-}
-
-fn print_end(rt: &impl Print, count: usize) -> io::Result<()> {
-    let mut log = [0u8; 1256];
-    print_text(rt, b" ")?;
-    print_number(rt, appended(&mut log, &tap(), count))
+    print!(rt; "eight taps end at")?;
+    for count in 1..=8 {
+        let end = appended(&mut [0u8; EIGHT_TAPS], &TAP, count).unwrap_or(0);
+        print!(rt; " {end}")?;
+    }
+    println!(rt;)
 }
 
 fn run_tickets(rt: &impl Print, log: &mut [u8; TICKETS]) -> io::Result<()> {
     let mut ticket = [0u8; 49];
-    ticket[0] = 0x12;
-    let used = appended(log, &ticket, 4095);
-    print_answer(rt, b"append at n = 4,095: ", append(log, used, &ticket))?;
-    print_answer(rt, b"append at n = 4,096: ", append(log, TICKETS, &ticket))?;
+    ticket[0] = Kind::TICKET;
+    let used = appended(log, &ticket, 4095).unwrap_or(0);
+    print_answer(rt, "append at n = 4,095", append(log, used, &ticket))?;
+    print_answer(rt, "append at n = 4,096", append(log, TICKETS, &ticket))?;
     let audited = ringlog::audit(log);
-    print_line(rt, b"entries of the full log: ", audited.entries)?;
-    print_line(rt, b"bytes of the full log: ", audited.bytes)
+    print_line(rt, "entries of the full log", audited.entries)?;
+    print_line(rt, "bytes of the full log", audited.bytes)
 }
 
 fn run_room(rt: &impl Print) -> io::Result<()> {
-    let mut enough = [0u8; 52];
-    let mut short = [0u8; 51];
-    print_answer(
-        rt,
-        b"first tap into 52 bytes: ",
-        append(&mut enough, 0, &tap()),
-    )?;
-    print_answer(
-        rt,
-        b"first tap into 51 bytes: ",
-        append(&mut short, 0, &tap()),
-    )
+    let enough = append(&mut [0u8; 52], 0, &TAP);
+    let short = append(&mut [0u8; 51], 0, &TAP);
+    print_answer(rt, "first tap into 52 bytes", enough)?;
+    print_answer(rt, "first tap into 51 bytes", short)
 }
 
 fn run_cuts(rt: &impl Print) -> io::Result<()> {
     let mut log = [0u8; SEVEN_TAPS];
-    let used = appended(&mut log, &tap(), 7);
-    print_line(rt, b"used of seven taps: ", used)?;
-    print_answer(rt, b"cut to 7: ", cut(&mut log, used, 7))?;
-    print_answer(rt, b"cut to 8: ", cut(&mut log, used, 8))?;
-    print_answer(rt, b"cut to 0: ", cut(&mut log, used, 0))
+    let used = appended(&mut log, &TAP, 7).unwrap_or(0);
+    print_line(rt, "used of seven taps", used)?;
+    print_answer(rt, "cut to 7", cut(&mut log, used, 7))?;
+    print_answer(rt, "cut to 8", cut(&mut log, used, 8))?;
+    print_answer(rt, "cut to 0", cut(&mut log, used, 0))
+}
+
+fn seven_taps() -> [u8; SEVEN_TAPS] {
+    let mut log = [0u8; SEVEN_TAPS];
+    let _used = appended(&mut log, &TAP, 7);
+    log
 }
 
 fn run_values(rt: &impl Print) -> io::Result<()> {
-    let mut log = [0u8; SEVEN_TAPS];
-    appended(&mut log, &tap(), 7);
-    let root = ringlog::root(&log).digest;
-    print_refusal(rt, b"checked value 1: ", value_number(&log, &root, 1))?;
-    print_line(rt, b"bytes of that value: ", value(&log, &root, 1).len())?;
-    print_refusal(rt, b"checked value 0: ", value_number(&log, &root, 0))
+    let log = seven_taps();
+    let root = ringlog::root(&log).unwrap_or([0; 32]);
+    print_checked(rt, "checked value 1", value_place(&log, &root, 1))?;
+    print_line(rt, "bytes of that value", value(&log, &root, 1).len())?;
+    print_checked(rt, "checked value 0", value_place(&log, &root, 0))
 }
 
 fn run_proofs(rt: &impl Print) -> io::Result<()> {
-    let mut log = [0u8; SEVEN_TAPS];
-    appended(&mut log, &tap(), 7);
-    let mut output = [0u8; 96];
-    let mut short = [0u8; 95];
-    print_answer(
-        rt,
-        b"proof of 1 into 96 bytes: ",
-        proof(&log, 1, &mut output),
-    )?;
-    print_answer(
-        rt,
-        b"proof of 1 into 95 bytes: ",
-        proof(&log, 1, &mut short),
-    )?;
-    print_answer(rt, b"proof of 0: ", proof(&log, 0, &mut [0u8; 96]))
+    let log = seven_taps();
+    let enough = proof(&log, 1, &mut [0u8; 96]);
+    let short = proof(&log, 1, &mut [0u8; 95]);
+    print_answer(rt, "proof of 1 into 96 bytes", enough)?;
+    print_answer(rt, "proof of 1 into 95 bytes", short)?;
+    print_answer(rt, "proof of 0", proof(&log, 0, &mut [0u8; 96]))
 }
 
 // What one of two logs lacks of the other: behind no taps seven, and of equal logs nothing.
 fn run_repairs(rt: &impl Print) -> io::Result<()> {
-    let mut log = [0u8; SEVEN_TAPS];
-    appended(&mut log, &tap(), 7);
-    let empty = [0u8; 0];
-    print_line(rt, b"piece for an empty log: ", repair(&log, &empty).len())?;
-    print_line(rt, b"piece for an equal log: ", repair(&log, &log).len())
+    let log = seven_taps();
+    print_line(rt, "piece for an empty log", repair(&log, &[]).len())?;
+    print_line(rt, "piece for an equal log", repair(&log, &log).len())
 }
 
 fn run_empty(rt: &impl Print) -> io::Result<()> {
-    let mut empty = [0u8; 0];
-    let mut output = [0u8; 96];
-    let root = ringlog::root(&empty).digest;
-    print_refusal(
-        rt,
-        b"checked value 0 of an empty log: ",
-        value_number(&empty, &root, 0),
-    )?;
-    print_answer(
-        rt,
-        b"proof of 0 of an empty log: ",
-        proof(&empty, 0, &mut output),
-    )?;
-    print_answer(rt, b"cut of an empty log to 0: ", cut(&mut empty, 0, 0))
+    let root = ringlog::root(&[]).unwrap_or([0; 32]);
+    let checked = value_place(&[], &root, 0);
+    print_checked(rt, "checked value 0 of an empty log", checked)?;
+    let proved = proof(&[], 0, &mut [0u8; 96]);
+    print_answer(rt, "proof of 0 of an empty log", proved)?;
+    print_answer(rt, "cut of an empty log to 0", cut(&mut [], 0, 0))
 }

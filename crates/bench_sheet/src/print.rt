@@ -1,49 +1,47 @@
 // Lines on standard output: a text, and behind it what the library answers.
 ghost use Rattle.std.specs.Prelude.{◌≤◌};
 
-use ringlog::Counted;
+use entry::Cause;
+use entry::kind::Kind;
+use inclusion::Part;
 use slate::moves::{hops, lefts};
 use std::io;
 
-pub fn print_text(rt: &impl Print, text: &[u8]) -> io::Result<()> {
-    rt.write_all(text)
+pub fn print_kind(rt: &impl Print, kind: Kind) -> io::Result<()> {
+    let byte = kind.byte();
+    let body = kind.body_len();
+    println!(rt; "kind {byte}: body {body}")
 }
 
-pub fn print_number(rt: &impl Print, n: usize) -> io::Result<()> {
-    print!(rt; "{n}")
+pub fn print_line(rt: &impl Print, text: &str, n: usize) -> io::Result<()> {
+    println!(rt; "{text}: {n}")
 }
 
-pub fn print_line(rt: &impl Print, text: &[u8], n: usize) -> io::Result<()> {
-    print_text(rt, text)?;
-    print_number(rt, n)?;
-    print_text(rt, b"\n")
-}
-
-pub fn print_answer(rt: &impl Print, text: &[u8], answer: Counted) -> io::Result<()> {
+pub fn print_answer(rt: &impl Print, text: &str, answer: Result<usize, Cause>) -> io::Result<()> {
     match answer {
-        Counted::Done(bytes) => print_line(rt, text, bytes),
-        Counted::Refused(cause) => print_refusal(rt, text, cause.number()),
+        Ok(n) => print_line(rt, text, n),
+        Err(cause) => print_refusal(rt, text, cause),
     }
 }
 
-// Number 0 is no refusal.
-pub fn print_refusal(rt: &impl Print, text: &[u8], number: u32) -> io::Result<()> {
-    print_text(rt, text)?;
-    if number == 0 {
-        return print_text(rt, b"answered\n");
+// Whether a value is read out.
+pub fn print_checked(rt: &impl Print, text: &str, answer: Result<Part, Cause>) -> io::Result<()> {
+    match answer {
+        Ok(_) => println!(rt; "{text}: answered"),
+        Err(cause) => print_refusal(rt, text, cause),
     }
-    print_line(rt, b"refused ", number as usize)
+}
+
+fn print_refusal(rt: &impl Print, text: &str, cause: Cause) -> io::Result<()> {
+    let number = u32::from(cause);
+    println!(rt; "{text}: refused {number}")
 }
 
 // Internal: i is at least 1.
 pub fn print_moves(rt: &impl Print, n: u32, i: u32) -> io::Result<()>
     requires { 1 ≤ i }
 {
-    print_text(rt, b"hops(")?;
-    print_number(rt, n as usize)?;
-    print_text(rt, b",")?;
-    print_number(rt, i as usize)?;
-    print_text(rt, b") = ")?;
-    print_number(rt, hops(n, i) as usize)?;
-    print_line(rt, b", lefts ", lefts(n, i) as usize)
+    let moves = hops(n, i);
+    let lefts = lefts(n, i);
+    println!(rt; "hops({n},{i}) = {moves}, lefts {lefts}")
 }

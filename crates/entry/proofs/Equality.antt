@@ -2,12 +2,12 @@
 -- Assumes nothing.
 use mathlib.Core.Bool.{Bool, true, false, ◌&&◌}
 use mathlib.Core.List.{List, [], ◌∷◌}
+use mathlib.Core.Logic.{◌⊎◌, inl, inr}
 use mathlib.Core.Path.{◌≡◌, refl, ap}
-use Prim.Native.Nat.{ℕ, zero, suc, ◌+◌, ◌≤◌, ◌<◌}
-use native.Mathlib.Numerals.{add-one}
+use Prim.Native.Nat.{ℕ}
 use native.Mathlib.Omega.{arith}
 use lib.Dec.{eqb}
-use lib.ListN.{length, get_or, drop, drop_of_length-le}
+use lib.ListN.{length}
 use Rattle.sha256.specs.Pick.{pick}
 use Rattle.slate.specs.Bytes.{same}
 use Rattle.slate.proofs.Lists.{same_ne}
@@ -15,24 +15,18 @@ use Rattle.slate.proofs.Lists.{same_ne}
 pub same_lengths : (a b : List ℕ) → (length a ≡ length b → ⊥) → same a b ≡ false
 same_lengths a b n = same_ne a b (λ e. n (ap length e))
 
--- the bytes from i on are the same where byte i is and those behind it are
-same_from : (i : ℕ) (a b : List ℕ) → i < length a → i < length b
-    → same (drop i a) (drop i b) ≡ pick (eqb (get_or a i 0) (get_or b i 0)) (same (drop (suc i) a) (drop (suc i) b)) false
+-- a test of the bytes before goes on with the next pair
+pub same_more : (t : Bool) (x y : ℕ) (a b : List ℕ) → pick t (same (x ∷ a) (y ∷ b)) false ≡ pick (t && eqb x y) (same a b) false
 unfolding same
-same_from i [] b p q = absurd (omega arith)
-same_from i (x ∷ xs) [] p q = absurd (omega arith)
-same_from zero (x ∷ xs) (y ∷ ys) p q = refl
-same_from (suc i) (x ∷ xs) (y ∷ ys) p q = same_from i xs ys (omega arith) (omega arith)
-
--- a test of the bytes before i goes on with byte i
-pub same_more : (a b : List ℕ) (i : ℕ) (t : Bool) → i < length a → i < length b
-    → pick t (same (drop i a) (drop i b)) false
-    ≡ pick (t && eqb (get_or a i 0) (get_or b i 0)) (same (drop (i + 1) a) (drop (i + 1) b)) false
-same_more a b i true p q = rw add-one (same_from i a b p q)
-same_more a b i false p q = refl
+same_more true x y a b = refl
+same_more false x y a b = refl
 
 -- and is the test of all of them behind the last
-pub same_end : (a b : List ℕ) (i : ℕ) (t : Bool) → length a ≤ i → length b ≤ i → pick t (same (drop i a) (drop i b)) false ≡ t
+pub same_end : (t : Bool) (a b : List ℕ) → length a ≡ length b → (a ≡ []) ⊎ (b ≡ []) → pick t (same a b) false ≡ t
 unfolding same
-same_end a b i true p q = rw (drop_of_length-le a p, drop_of_length-le b q)
-same_end a b i false p q = refl
+same_end true [] [] e o = refl
+same_end false a b e o = refl
+same_end true [] (y ∷ b) e o = absurd (omega arith)
+same_end true (x ∷ a) [] e o = absurd (omega arith)
+same_end true (x ∷ a) (y ∷ b) e (inl p) = absurd (omega (arith, ap length p))
+same_end true (x ∷ a) (y ∷ b) e (inr p) = absurd (omega (arith, ap length p))

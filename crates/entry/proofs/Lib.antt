@@ -1,3 +1,4 @@
+pub mod Cases
 pub mod Claimed
 pub mod DescentLinks
 pub mod Descents

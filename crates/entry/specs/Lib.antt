@@ -5,6 +5,7 @@ pub mod Layout
 pub mod Linked
 pub mod Log
 pub mod Next
+pub mod Opening
 pub mod Read
 pub mod Reasons
 pub mod Refusal

@@ -6,13 +6,14 @@ ghost use Rattle.slate.specs.Bytes.{same};
 pub fn same_bytes(a: &[u8], b: &[u8]) -> bool
     ensures { result ≡ same a.now b.now }
 {
-    let n = a.len();
-    if n != b.len() {
+    if a.len() != b.len() {
         return false;
     }
+    // All pairs are compared, which is vector code. std's == on slices calls a function for 32
+    // bytes, and takes twice the time.
     let mut equal = true;
-    for i in 0..n {
-        equal = equal & (a[i] == b[i]);
+    for (x, y) in a.iter().zip(b) {
+        equal &= *x == *y;
     }
     equal
 }

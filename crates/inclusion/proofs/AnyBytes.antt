@@ -1,5 +1,6 @@
 -- On any bytes: what an answered value and a written proof are worth, and what a refusal leaves.
 -- Assumes nothing.
+use Rattle.std.proofs.Common.{Option, Some, None}
 use mathlib.Core.Bool.{true}
 use mathlib.Core.List.{List, []}
 use mathlib.Core.Path.{◌≡◌, refl}
@@ -18,7 +19,7 @@ use Rattle.entry.specs.Shape.{opened_log}
 use Rattle.entry.specs.Siblings.{siblings}
 use Rattle.entry.specs.Walk.{Descent, arrived, descend, stopped}
 use Rattle.entry.specs.declared.Opened.{Opened}
-use Rattle.entry.specs.declared.Opened.TheVariants as opened
+use Rattle.entry.specs.Opening.{opening_at}
 use Rattle.ringlog.specs.Answer.{refused, written}
 use Rattle.inclusion.specs.Claims as claims
 use Rattle.inclusion.specs.Claims.{Included}
@@ -58,7 +59,7 @@ value_bound b r i =
     by_value b r i
     (λ p.
     p.number ≡ 0
-    → (o : ℕ) × (n : ℕ) × (opened_log b ≡ opened.Log o n) × Included slate n i (part_of b p) (siblings b o (n - 1) max_height (i - 1)) r)
+    → (o : ℕ) × (n : ℕ) × (opened_log b ≡ opening_at o n) × Included slate n i (part_of b p) (siblings b o (n - 1) max_height (i - 1)) r)
     (λ k f z. absurd (f z))
     (λ l h z. (h.start, h.count, h.there.opens, held_included b r i l h))
 
@@ -77,13 +78,13 @@ proof_refused b out i h = refused_stays 0 out (proof_of b i (length out)) h
 
 module _ (b s : List ℕ) (i room : ℕ) where
   abbrev Written : Type 0
-  Written = (o : ℕ) × (n : ℕ) × (opened_log b ≡ opened.Log o n) × (length s ≡ 32 * hops n i) × (length s ≤ room)
+  Written = (o : ℕ) × (n : ℕ) × (opened_log b ≡ opening_at o n) × (length s ≡ 32 * hops n i) × (length s ≤ room)
 
   -- a refusal writes nothing
   no_proof : (k : ℕ) → refused k ≡ written s → Written
   no_proof k e = let z : ◌≡◌ {A = ℕ} 0 1 = cc in absurd (omega arith)
 
-  by_walk : (o n : ℕ) → opened_log b ≡ opened.Log o n → is_index i n ≡ true → 32 * hops n i ≤ room
+  by_walk : (o n : ℕ) → opened_log b ≡ opening_at o n → is_index i n ≡ true → 32 * hops n i ≤ room
       → (d : Descent) → descend b o (n - 1) max_height (i - 1) ≡ d → proof_reached b o n i d ≡ written s → Written
   by_walk o n opens index fits (arrived l qs) run e =
       let r = index_range i n index in
@@ -93,14 +94,16 @@ module _ (b s : List ℕ) (i room : ℕ) where
       (o, n, opens, size, omega arith)
   by_walk o n opens index fits (stopped c) run e = no_proof (cause_number c) e
 
-  by_open : (r : Opened) → opened_log b ≡ r → proof_opened b i room r ≡ written s → Written
-  by_open (opened.Log o n) opens e =
+  by_open : (r : Option Opened) → opened_log b ≡ r → proof_opened b i room r ≡ written s → Written
+  by_open (Some l) opens e =
+      let o = l.start in
+      let n = l.count in
       by_bool (is_index i n)
       (λ t. by_order room (32 * hops n i)
       (λ lt. no_proof 8 (rw (t, lt-ltb room (32 * hops n i) lt) at e))
       (λ le. by_walk o n opens t le (descend b o (n - 1) max_height (i - 1)) refl (rw (t, le-ltb room (32 * hops n i) le) at e)))
       (λ t. no_proof 2 (rw t at e))
-  by_open opened.Refused opens e = no_proof 6 e
+  by_open None opens e = no_proof 6 e
 
 pub proof_written : claims.ProofWritten
 unfolding proof_of

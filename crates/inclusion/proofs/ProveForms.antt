@@ -1,5 +1,6 @@
 -- Proof, test by test as the code makes them.
 -- Assumes nothing.
+use Rattle.std.proofs.Common.{None}
 use mathlib.Core.Bool.{false}
 use mathlib.Core.List.{List}
 use mathlib.Core.Path.{◌≡◌, ap}
@@ -15,7 +16,7 @@ use Rattle.entry.specs.Siblings.{siblings}
 use Rattle.entry.specs.Walk.{descend, stopped}
 use Rattle.entry.specs.Write.{write_at}
 use Rattle.entry.specs.declared.Cause.{Cause}
-use Rattle.entry.specs.declared.Opened.TheVariants as opened
+use Rattle.entry.specs.Opening.{opening_at}
 use Rattle.ringlog.specs.Answer.{counted, refused, written}
 use Rattle.inclusion.specs.Prove.{proof_of, proof_reached}
 use Rattle.slate.proofs.Formulas.{hops_formula}
@@ -25,11 +26,11 @@ use Rattle.entry.proofs.Reached.{Indexed, Reached, reached_arrives}
 use Rattle.ringlog.proofs.Outcomes.{Answers}
 
 module _ (b : List ℕ) (i room : ℕ) where
-  pub no_log : opened_log b ≡ opened.Refused → proof_of b i room ≡ refused 6
+  pub no_log : opened_log b ≡ None → proof_of b i room ≡ refused 6
   unfolding proof_of
   no_log e = rw e
 
-  pub no_index : (o n : ℕ) → opened_log b ≡ opened.Log o n → is_index i n ≡ false → proof_of b i room ≡ refused 2
+  pub no_index : (o n : ℕ) → opened_log b ≡ opening_at o n → is_index i n ≡ false → proof_of b i room ≡ refused 2
   unfolding proof_of
   no_index o n opens f = rw (opens, f)
 

@@ -13,13 +13,12 @@ use Rattle.entry.specs.Reasons.{Opens, Unopened}
 use Rattle.entry.specs.Shape.{opened_log}
 use Rattle.entry.specs.Siblings.{siblings}
 use Rattle.entry.specs.declared.Cause.TheVariants as cause
-use Rattle.entry.specs.declared.Opened.TheVariants as opened
+use Rattle.entry.specs.Opening.{opening_at}
 use Rattle.ringlog.specs.Answer.{after, answer, counted, written}
 use Rattle.ringlog.specs.Reasons.{Fails, Reaches, refuses}
 use Rattle.inclusion.specs.Check.{proof_holds}
 use Rattle.inclusion.specs.Prove.{proof_of}
-use Rattle.inclusion.specs.Value.{checked_value, item_part, no_part, part_of}
-use Rattle.inclusion.specs.declared.Part.{Part}
+use Rattle.inclusion.specs.Value.{PartAnswer, checked_value, item_part, no_part, part_of}
 
 -- ---- proof check
 
@@ -68,11 +67,11 @@ ProofAccepted =
 abbrev pub ValueBound : Type 0
 ValueBound =
     (b r : List ℕ) (i : ℕ) → (checked_value b r i).number ≡ 0
-    → (o : ℕ) × (n : ℕ) × (opened_log b ≡ opened.Log o n)
+    → (o : ℕ) × (n : ℕ) × (opened_log b ≡ opening_at o n)
     × Included slate n i (part_of b (checked_value b r i)) (siblings b o (n - 1) max_height (i - 1)) r
 
 -- where P holds, a checked value answers this number and an empty part
-abbrev pub no_value : ℕ → Type 0 → Reason Part
+abbrev pub no_value : ℕ → Type 0 → Reason PartAnswer
 no_value k P = record { answer = record { number = k; offset = 0; length = 0 }; when = P }
 
 -- 1 where the root is not 32 bytes; 6 where opening fails; 2 where the index is 0 or above n; then the steps to entry i: 6 where an entry
@@ -102,7 +101,7 @@ ValueRefused =
 abbrev pub ProofWritten : Type 0
 ProofWritten =
     (b s : List ℕ) (i room : ℕ) → proof_of b i room ≡ written s
-    → (o : ℕ) × (n : ℕ) × (opened_log b ≡ opened.Log o n) × (length s ≡ 32 * hops n i) × (length s ≤ room)
+    → (o : ℕ) × (n : ℕ) × (opened_log b ≡ opening_at o n) × (length s ≡ 32 * hops n i) × (length s ≤ room)
 
 -- 6 where opening fails; 2 where the index is 0 or above n; 8 where 32·hops bytes do not fit the lent output; then the steps to entry i: 6
 -- where an entry met is not shaped with the index wanted, 7 where a link digest disagrees; else number 0 and 32·hops

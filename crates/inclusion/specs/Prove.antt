@@ -1,5 +1,5 @@
 -- Proof, on any bytes: the checks 6, 2, 8 in this order, then the steps to entry i. The siblings are written once every step has held.
-use Rattle.std.specs.Prelude.{List, ℕ, ◌*◌, ◌-◌, ltb}
+use Rattle.std.specs.Prelude.{List, ℕ, ◌*◌, ◌-◌, ltb, Option, Some, None}
 use Rattle.sha256.specs.Pick.{pick}
 use Rattle.slate.specs.Digits.{max_height}
 use Rattle.slate.specs.Index.{is_index}
@@ -9,7 +9,6 @@ use Rattle.entry.specs.Shape.{opened_log}
 use Rattle.entry.specs.Siblings.{siblings}
 use Rattle.entry.specs.Walk.{Descent, arrived, descend, stopped}
 use Rattle.entry.specs.declared.Opened.{Opened}
-use Rattle.entry.specs.declared.Opened.TheVariants as opened
 use Rattle.ringlog.specs.Answer.{Outcome, refused, written}
 
 -- the siblings on the path of value i of n, the one next to the leaf first; the last entry begins at o
@@ -18,13 +17,13 @@ proof_reached b o n i (arrived l qs) = written (siblings b o (n - 1) max_height 
 proof_reached b o n i (stopped c) = refused (cause_number c)
 
 -- 6 where the log does not open; 2 where i is 0 or above n; 8 where the proof does not fit into the room
-abbrev pub proof_opened : List ℕ → ℕ → ℕ → Opened → Outcome
-proof_opened b i room (opened.Log o n) =
-    pick (is_index i n)
-    (pick (ltb room (32 * hops n i)) (refused 8)
-    (proof_reached b o n i (descend b o (n - 1) max_height (i - 1))))
+abbrev pub proof_opened : List ℕ → ℕ → ℕ → Option Opened → Outcome
+proof_opened b i room (Some l) =
+    pick (is_index i l.count)
+    (pick (ltb room (32 * hops l.count i)) (refused 8)
+    (proof_reached b l.start l.count i (descend b l.start (l.count - 1) max_height (i - 1))))
     (refused 2)
-proof_opened b i room opened.Refused = refused (opened_number opened.Refused)
+proof_opened b i room None = refused (opened_number None)
 
 unfoldable pub proof_of : List ℕ → ℕ → ℕ → Outcome
 proof_of b i room = proof_opened b i room (opened_log b)

@@ -28,7 +28,7 @@ pub fn proof_holds(
     if !is_index(index, count) {
         return false;
     }
-    if (LIMIT as usize) < count {
+    if count > LIMIT as usize {
         return false;
     }
     if !is_item(item) {

@@ -12,12 +12,11 @@ mod values;
 
 pub use checking::{check_proof, proof_holds};
 pub use proving::proof;
-pub use values::{value, value_number, value_place};
+pub use values::{value, value_place};
 
-// Number 0 and a part of the lent log, or the number of a refusal and an empty part at 0.
-#[derive(Clone, Copy)]
+// A part of the lent log.
+#[derive(Clone, Copy, PartialEq, Eq, Debug)]
 pub struct Part {
-    pub number: u32,
     pub offset: usize,
     pub length: usize,
 }

@@ -3,20 +3,21 @@
 -- Assumes nothing.
 use mathlib.Core.Bool.{true, false}
 use mathlib.Core.List.{List}
-use mathlib.Core.Path.{◌≡◌, refl, sym, ◌∙◌}
+use mathlib.Core.Path.{◌≡◌, refl, sym, ap, ◌∙◌}
 use Prim.Native.Nat.{ℕ, zero, suc, ◌+◌, ◌*◌, ◌-◌, ◌^◌, ◌≤◌, ◌<◌}
 use native.Mathlib.Decide.{le_ind}
 use native.Mathlib.Omega.{arith}
-use lib.ListN.{length, take, drop, length-drop, length-take}
+use lib.ListN.{length, take, drop, length-drop}
 use lib.Pow.{pow_pos}
+use lib.Seq.{drop-drop}
 use Rattle.sha256.specs.Answer.{tagged}
+use Rattle.slate.specs.Bytes.{part}
 use Rattle.slate.specs.Digits.{base, digit, left, max_height}
 use Rattle.slate.specs.Path.{sibling}
 use Rattle.slate.specs.PartialTree.{cuts}
 use Rattle.slate.specs.Tree.{rfc6962}
 use Rattle.slate.proofs.Bits.{base_le, base_under, base_zero, left_end, no_left}
 use Rattle.slate.proofs.Cases.{by_digit, by_order}
-use Rattle.slate.proofs.Lists.{part_slice}
 use Rattle.slate.proofs.WayUp.{on_left, on_right, on_way, way_left, way_none, way_right, way_root}
 use Rattle.rfc6962.specs.Consistency.{new_from, new_root, old_from, old_root, omitted, sibling_count}
 use Rattle.rfc6962.specs.Layouts.{apart}
@@ -29,91 +30,109 @@ use Rattle.rfc6962.proofs.WaySplits.{Split, end_here, none_here, way_inside}
 abbrev pub Found : ℕ → ℕ → ℕ → List ℕ → List ℕ → List ℕ → List ℕ → Type 0
 Found f m n d ss old new = (old ≡ old_from rfc6962 f m n d ss) × (new ≡ new_from rfc6962 f m n d ss)
 
--- ---- the bytes of a sibling
-
--- the one at `at`, as a part of the siblings
-abbrev pub sibling_bytes : List ℕ → ℕ → List ℕ
-sibling_bytes ss at = take (at + 32 - at) (drop at ss)
-
-pub sibling_size : (ss : List ℕ) (at : ℕ) → at + 32 ≤ length ss → length (sibling_bytes ss at) ≡ 32
-sibling_size ss at room = simp (length-take, length-drop) (omega arith)
-
 -- ---- at a node
 
--- the values under the highest node of height at most h at position x are folded, with the siblings in front of `at`: those up to t to old,
--- and all to new
-pub record Folded (t : ℕ) (d ss : List ℕ) (x h : ℕ) (old new : List ℕ) (at : ℕ) : Type 0 where
+-- the values under the highest node of height at most h at position x are folded: those up to t to old, and all to new. So many siblings are
+-- taken, and `rest` is what is left of them
+pub record Folded (t : ℕ) (d ss : List ℕ) (x h : ℕ) (old new rest : List ℕ) : Type 0 where
   pub roots : (f : ℕ) → size x h ≤ 2 ^ f → Found f (up_to t x h) (size x h) d ss old new
-  pub place : at + 32 ≡ 32 * cuts (apart t) x h
+  pub count : ℕ
+  pub taken : suc count ≡ cuts (apart t) x h
+  pub place : rest ≡ drop (32 * count) ss
 
 module _ (t : ℕ) (d ss : List ℕ) where
   -- where the last of the values is at t, both are the digest of the first m
-  end_same : (h : ℕ) → Folded t d ss t h d d 0
+  end_same : (h : ℕ) → Folded t d ss t h d d ss
   end_same h = record {
     roots = λ f few. (sym (old_end rfc6962 d ss f (size t h)), sym (new_end rfc6962 d ss f (size t h)));
-    place = omega (arith, cuts_end t h);
+    count = 0;
+    taken = sym (cuts_end t h);
+    place = refl;
   }
 
-  end_is : (h : ℕ) (old new : List ℕ) (at : ℕ) → Folded t d ss t h old new at → (old ≡ d) × (new ≡ d) × (at ≡ 0)
-  end_is h old new at v =
+  end_is : (h : ℕ) (old new rest : List ℕ) → Folded t d ss t h old new rest → (old ≡ d) × (new ≡ d) × (rest ≡ ss)
+  end_is h old new rest v =
       let n : ℕ = size t h in
       let r = v.roots n (omega (arith, below_power n)) in
-      (r.0 ∙ old_end rfc6962 d ss n n, r.1 ∙ new_end rfc6962 d ss n n, omega (arith, v.place, cuts_end t h))
+      let z : v.count ≡ 0 = omega (arith, v.taken, cuts_end t h) in
+      (r.0 ∙ old_end rfc6962 d ss n n, r.1 ∙ new_end rfc6962 d ss n n, v.place ∙ ap (λ (c : ℕ). drop (32 * c) ss) z)
 
-  end_up : (p h : ℕ) (old new : List ℕ) (at : ℕ) → Folded t d ss t p old new at → Folded t d ss t h old new at
-  end_up p h old new at v = let e = end_is p old new at v in rw (e.0, e.1, e.2) (end_same h)
+  end_up : (p h : ℕ) (old new rest : List ℕ) → Folded t d ss t p old new rest → Folded t d ss t h old new rest
+  end_up p h old new rest v = let e = end_is p old new rest v in rw (e.0, e.1, e.2) (end_same h)
 
   -- the next sibling is the one behind those of the node
-  next : (x h f at : ℕ) → size x h ≤ 2 ^ f → base x h ≤ t → t ≤ x → at + 32 ≡ 32 * cuts (apart t) x h
-      → sibling_bytes ss at ≡ sibling ss (sibling_count f (up_to t x h) (size x h))
-  next x h f at few low high place =
-      let e : at ≡ 32 * sibling_count f (up_to t x h) (size x h) = omega (arith, count_cuts t x h f few low high) in
-      rw e (part_slice ss (32 * sibling_count f (up_to t x h) (size x h)) 32)
+  next : (x h f : ℕ) → size x h ≤ 2 ^ f → base x h ≤ t → t ≤ x → (old new rest : List ℕ) → Folded t d ss x h old new rest
+      → (s : List ℕ) → s ≡ take 32 rest → s ≡ sibling ss (sibling_count f (up_to t x h) (size x h))
+  unfolding part
+  next x h f few low high old new rest v s e =
+      let n : v.count ≡ sibling_count f (up_to t x h) (size x h) = omega (arith, v.taken, count_cuts t x h f few low high) in
+      rw (e, v.place, n) refl
 
-  module _ (x p : ℕ) (low : base x (suc p) ≤ t) (less : t < x) (old new : List ℕ) (at : ℕ) where
-    none_up : digit x p ≡ 0 → Folded t d ss x p old new at → Folded t d ss x (suc p) old new at
-    none_up z v = record { roots = rw (no_left x p z) at v.roots; place = v.place ∙ rw (cuts_none t x p low less z) }
+  module _ (x p : ℕ) (low : base x (suc p) ≤ t) (less : t < x) (old new rest : List ℕ) where
+    none_up : digit x p ≡ 0 → Folded t d ss x p old new rest → Folded t d ss x (suc p) old new rest
+    none_up z v = record {
+      roots = rw (no_left x p z) at v.roots;
+      count = v.count;
+      taken = v.taken ∙ rw (cuts_none t x p low less z);
+      place = v.place;
+    }
 
-    module _ (s : digit x p ≡ 1) where
+    -- s is the next sibling, and the others are `above`
+    module _ (set : digit x p ≡ 1) (s above : List ℕ) (front : s ≡ take 32 rest) (back : above ≡ drop 32 rest) where
       -- so there is a split
       split : size x (suc p) ≤ 2 ^ 0 → ⊥
-      split few = omega (arith, left_end x p s, base_le x p, pow_pos p)
+      split few = omega (arith, left_end x p set, base_le x p, pow_pos p)
 
-      left_up : t < base x p → Folded t d ss (left x p) p old new at → (r : List ℕ) → r ≡ tagged 1 new (sibling_bytes ss at)
-          → Folded t d ss x (suc p) old r (at + 32)
+      behind : (c : ℕ) → rest ≡ drop (32 * c) ss → above ≡ drop (32 * suc c) ss
+      behind c e =
+          let n : 32 * c + 32 ≡ 32 * suc c = omega arith in
+          back ∙ ap (drop 32) e ∙ drop-drop 32 (32 * c) ss ∙ ap (λ (k : ℕ). drop k ss) n
+
+      left_up : t < base x p → Folded t d ss (left x p) p old new rest → (r : List ℕ) → r ≡ tagged 1 new s
+          → Folded t d ss x (suc p) old r above
       unfolding tagged
-      left_up o v r e = record { roots = roots; place = omega (arith, v.place, cuts_left t x p low less s o) }
+      left_up o v r e = record {
+        roots = roots;
+        count = suc v.count;
+        taken = omega (arith, v.taken, cuts_left t x p low less set o);
+        place = behind v.count v.place;
+      }
         where
           roots : (f : ℕ) → size x (suc p) ≤ 2 ^ f → Found f (up_to t x (suc p)) (size x (suc p)) d ss old r
           roots zero few = absurd (split few)
           roots (suc f) few =
-              let w = base_under x p t s low o in
-              let child = few_left x p f s few in
+              let w = base_under x p t set low o in
+              let child = few_left x p f set few in
               let found = v.roots f child in (
-                found.0 ∙ sym (old_left rfc6962 d ss t x p f low less s o),
-                e ∙ rw (found.1, next (left x p) p f at child w.0 w.1 v.place, new_left rfc6962 d ss t x p f low less s o),
+                found.0 ∙ sym (old_left rfc6962 d ss t x p f low less set o),
+                e ∙ rw (found.1, next (left x p) p f child w.0 w.1 old new rest v s front, new_left rfc6962 d ss t x p f low less set o),
               )
 
-      right_up : base x p ≤ t → Folded t d ss x p old new at → (q r : List ℕ) → q ≡ tagged 1 (sibling_bytes ss at) old
-          → r ≡ tagged 1 (sibling_bytes ss at) new → Folded t d ss x (suc p) q r (at + 32)
+      right_up : base x p ≤ t → Folded t d ss x p old new rest → (q r : List ℕ) → q ≡ tagged 1 s old → r ≡ tagged 1 s new
+          → Folded t d ss x (suc p) q r above
       unfolding tagged
-      right_up o v q r eq er = record { roots = roots; place = omega (arith, v.place, cuts_right t x p low less s o) }
+      right_up o v q r eq er = record {
+        roots = roots;
+        count = suc v.count;
+        taken = omega (arith, v.taken, cuts_right t x p low less set o);
+        place = behind v.count v.place;
+      }
         where
           roots : (f : ℕ) → size x (suc p) ≤ 2 ^ f → Found f (up_to t x (suc p)) (size x (suc p)) d ss q r
           roots zero few = absurd (split few)
           roots (suc f) few =
-              let child = few_right x p f s few in
+              let child = few_right x p f set few in
               let found = v.roots f child in
-              let here = next x p f at child o (omega arith) v.place in (
-                eq ∙ rw (found.0, here, old_right rfc6962 d ss t x p f low less s o),
-                er ∙ rw (found.1, here, new_right rfc6962 d ss t x p f low less s o),
+              let here = next x p f child o (omega arith) old new rest v s front in (
+                eq ∙ rw (found.0, here, old_right rfc6962 d ss t x p f low less set o),
+                er ∙ rw (found.1, here, new_right rfc6962 d ss t x p f low less set o),
               )
 
 -- ---- on the way up
 
 -- l is the position of the last value, and the way down from it to t is folded up to height h
-abbrev pub FoldedUp : ℕ → ℕ → List ℕ → List ℕ → ℕ → List ℕ → List ℕ → ℕ → Type 0
-FoldedUp l t d ss h old new at = Folded t d ss (on_way l t h) h old new at
+abbrev pub FoldedUp : ℕ → ℕ → List ℕ → List ℕ → ℕ → List ℕ → List ℕ → List ℕ → Type 0
+FoldedUp l t d ss h old new rest = Folded t d ss (on_way l t h) h old new rest
 
 module _ (l t : ℕ) (less : t < l) (d ss : List ℕ) where
   le : t ≤ l
@@ -123,7 +142,7 @@ module _ (l t : ℕ) (less : t < l) (d ss : List ℕ) where
   unfolding on_way
   way_leaf = omega (arith, base_zero t)
 
-  pub folded_start : FoldedUp l t d ss 0 d d 0
+  pub folded_start : FoldedUp l t d ss 0 d d ss
   folded_start = rw way_leaf (end_same t d ss 0)
 
   -- the position at which the way stands at height p + 1
@@ -167,49 +186,52 @@ module _ (l t : ℕ) (less : t < l) (d ss : List ℕ) where
 
   -- ---- a turn: h is p + 1, and m is t + 1
 
-  module _ (p h : ℕ) (next : h ≡ suc p) (old new : List ℕ) (at : ℕ) (v : FoldedUp l t d ss p old new at) where
-    pub folded_none : digit t p ≡ 0 → base t p ≡ base l p → FoldedUp l t d ss h old new at
+  module _ (p h : ℕ) (next : h ≡ suc p) (old new rest : List ℕ) (v : FoldedUp l t d ss p old new rest) where
+    pub folded_none : digit t p ≡ 0 → base t p ≡ base l p → FoldedUp l t d ss h old new rest
     folded_none z e =
         let w = none_here l t less p (above p) refl z e in
-        rw next (none_up t d ss (above p) p (under p) w.0 old new at w.1 (rw (way_none l t le p (above p) refl w.1) at v))
+        rw next (none_up t d ss (above p) p (under p) w.0 old new rest w.1 (rw (way_none l t le p (above p) refl w.1) at v))
 
-    pub folded_end : (m : ℕ) → m ≡ suc t → base m h ≡ m → FoldedUp l t d ss h old new at
+    pub folded_end : (m : ℕ) → m ≡ suc t → base m h ≡ m → FoldedUp l t d ss h old new rest
     folded_end m e b =
         let w = way_end p (end_here l t less p (above p) refl h next m e b) in
-        rw (next, w.0) (end_up t d ss p (suc p) old new at (rw w.1 at v))
+        rw (next, w.0) (end_up t d ss p (suc p) old new rest (rw w.1 at v))
 
     module _ (s : Split t p (above p)) where
       -- a sibling is left: up to height g there are c of them
-      pub folded_room : (g c n : ℕ) → h ≤ g → l < 2 ^ g → cuts (apart t) l g ≡ suc c → 32 * c ≤ n → at + 32 ≤ n
-      folded_room g c n up lt all room =
+      pub folded_room : (g c : ℕ) → h ≤ g → l < 2 ^ g → cuts (apart t) l g ≡ suc c → 32 * c ≤ length ss → 32 ≤ length rest
+      folded_room g c up lt all room =
           let rise : counted (suc p) ≤ counted g = counted_rise (suc p) g (omega arith) in
-          omega (arith, v.place, counted_split p s, rise, rw (← way_root l t le g lt) at all)
+          let top : counted g ≡ suc c = rw (← way_root l t le g lt) at all in
+          rw (v.place, length-drop) (omega (arith, v.taken, counted_split p s, rise, top))
 
-      pub folded_left : digit t p ≡ 0 → (r : List ℕ) → r ≡ tagged 1 new (sibling_bytes ss at) → FoldedUp l t d ss h old r (at + 32)
-      folded_left z r e =
-          let o = on_left l t le p (above p) refl s.1 z in
-          let w = rw (way_left l t le p (above p) refl s.1 o) at v in
-          rw next (left_up t d ss (above p) p (under p) s.0 old new at s.1 o w r e)
+      -- q is the next one, and the others are r
+      module _ (q r : List ℕ) (front : q ≡ take 32 rest) (back : r ≡ drop 32 rest) where
+        pub folded_left : digit t p ≡ 0 → (n : List ℕ) → n ≡ tagged (rfc6962 h) new q → FoldedUp l t d ss h old n r
+        folded_left z n e =
+            let o = on_left l t le p (above p) refl s.1 z in
+            let w = rw (way_left l t le p (above p) refl s.1 o) at v in
+            rw next (left_up t d ss (above p) p (under p) s.0 old new rest s.1 q r front back o w n (rw next at e))
 
-      pub folded_right : digit t p ≡ 1 → (q r : List ℕ) → q ≡ tagged 1 (sibling_bytes ss at) old → r ≡ tagged 1 (sibling_bytes ss at) new
-          → FoldedUp l t d ss h q r (at + 32)
-      folded_right z q r eq er =
-          let o = on_right l t le p (above p) refl s.1 z in
-          let w = rw (way_right l t le p (above p) refl s.1 o) at v in
-          rw next (right_up t d ss (above p) p (under p) s.0 old new at s.1 o w q r eq er)
+        pub folded_right : digit t p ≡ 1 → (m n : List ℕ) → m ≡ tagged (rfc6962 h) q old → n ≡ tagged (rfc6962 h) q new
+            → FoldedUp l t d ss h m n r
+        folded_right z m n em en =
+            let o = on_right l t le p (above p) refl s.1 z in
+            let w = rw (way_right l t le p (above p) refl s.1 o) at v in
+            rw next (right_up t d ss (above p) p (under p) s.0 old new rest s.1 q r front back o w m n (rw next at em) (rw next at en))
 
 -- ---- of n values
 
 pub found_same : (m n : ℕ) (d ss : List ℕ) → m ≡ n → Found max_height m n d ss d d
 found_same m n d ss e = rw e (sym (old_end rfc6962 d ss max_height n), sym (new_end rfc6962 d ss max_height n))
 
-pub folded_whole : (m n : ℕ) → 1 ≤ m → m ≤ n → n ≤ 2 ^ max_height → (d ss old new : List ℕ) (at : ℕ)
-    → FoldedUp (n - 1) (m - 1) d ss max_height old new at → Found max_height m n d ss old new
-folded_whole m n some le few d ss old new at v =
+pub folded_whole : (m n : ℕ) → 1 ≤ m → m ≤ n → n ≤ 2 ^ max_height → (d ss old new rest : List ℕ)
+    → FoldedUp (n - 1) (m - 1) d ss max_height old new rest → Found max_height m n d ss old new
+folded_whole m n some le few d ss old new rest v =
     let l : ℕ = n - 1 in
     let t : ℕ = m - 1 in
     let lt : l < 2 ^ max_height = omega arith in
-    let w : Folded t d ss l max_height old new at = rw (way_root l t (omega arith) max_height lt) at v in
+    let w : Folded t d ss l max_height old new rest = rw (way_root l t (omega arith) max_height lt) at v in
     let all = up_to_whole n l (omega arith) lt in
     rw (up_to_whole m l some lt, all) at (w.roots max_height (omega (arith, all)))
 

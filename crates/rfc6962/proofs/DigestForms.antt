@@ -13,12 +13,9 @@ use Rattle.slate.specs.Tree.{rfc6962, top}
 use Rattle.slate.proofs.Cases.{true_false}
 use Rattle.slate.proofs.Tops.{top_length}
 use Rattle.entry.specs.Write.{write_at}
-use Rattle.entry.specs.Read.{left_offset_at}
 use Rattle.entry.proofs.Writes.{write_both}
 use Rattle.ringlog.specs.Values.{values_of}
 use Rattle.rfc6962.specs.Layouts.{digests_under}
-use Rattle.rfc6962.specs.Whole.{Stands}
-use Rattle.rfc6962.proofs.TopForms.{stands_left}
 use Rattle.rfc6962.proofs.LayoutDigests.{under_cut, under_leaf, under_left, under_none, under_omitted, under_right}
 
 -- ---- what is written
@@ -39,10 +36,10 @@ put_both out at ds es fs q room r s e f first second =
       write_both out e f at r es fs first.1 second.1 first.0 (omega (arith, first.0)) ∙ ap (write_at out at) (sym q),
     )
 
--- what is asked: an entry of the log b, a first digest where it is to be omitted, and room for the digests in n bytes
-abbrev pub Ready : List ℕ → ℕ → ℕ → ℕ → ℕ → ℕ → Bool → ℕ → ℕ → Type 0
-Ready b o x h a t omit at n =
-    Stands b o x × ((h ≤ max_height) × ((omit ≡ true → a ≡ suc t) × (at + length (digests_under omit a t (values_of b) x h) ≤ n)))
+-- what is asked: a first digest where it is to be omitted, and room for the digests in n bytes
+abbrev pub Ready : List ℕ → ℕ → ℕ → ℕ → ℕ → Bool → ℕ → ℕ → Type 0
+Ready b x h a t omit at n =
+    (h ≤ max_height) × ((omit ≡ true → a ≡ suc t) × (at + length (digests_under omit a t (values_of b) x h) ≤ n))
 
 -- what is answered
 abbrev pub Laid : List ℕ → ℕ → ℕ → ℕ → ℕ → Bool → List ℕ → ℕ → ℕ → List ℕ → Type 0
@@ -67,74 +64,71 @@ room_cut b x h a t omit at n c f room =
     omega (arith, ap length (under_cut omit a t (values_of b) x h c f), top_length rfc6962 (values_of b) x h)
 
 -- below the height h there is the height p
-pub record Within (b : List ℕ) (o x p h a t : ℕ) (omit : Bool) (at n : ℕ) : Type 0 where
+pub record Within (b : List ℕ) (x p h a t : ℕ) (omit : Bool) (at n : ℕ) : Type 0 where
   pub next : h ≡ suc p
-  pub ready : Ready b o x h a t omit at n
+  pub ready : Ready b x h a t omit at n
   pub within : outside a (suc t) x h ≡ false
 
-module _ {b : List ℕ} {o x p h a t : ℕ} {omit : Bool} {at n : ℕ} (w : Within b o x p h a t omit at n) where
+module _ {b : List ℕ} {x p h a t : ℕ} {omit : Bool} {at n : ℕ} (w : Within b x p h a t omit at n) where
   here : outside a (suc t) x (suc p) ≡ false
   here = rw w.next at w.within
 
   whole : omit ≡ true → a ≡ suc t
-  whole = w.ready.1.1.0
+  whole = w.ready.1.0
 
   room : at + length (digests_under omit a t (values_of b) x (suc p)) ≤ n
-  room = rw w.next at w.ready.1.1.1
+  room = rw w.next at w.ready.1.1
 
   low : p < max_height
-  low = omega (arith, w.next, w.ready.1.0)
+  low = omega (arith, w.next, w.ready.0)
 
   -- no node of the height h
   module _ (d : digit x p ≡ 0) where
     none : digests_under omit a t (values_of b) x (suc p) ≡ digests_under omit a t (values_of b) x p
     none = under_none omit a t (values_of b) whole x p here d
 
-    pub ready_none : Ready b o x p a t omit at n
-    ready_none = (w.ready.0, (omega (arith, low), (whole, rw none at room)))
+    pub ready_none : Ready b x p a t omit at n
+    ready_none = (omega (arith, low), (whole, rw none at room))
 
     pub laid_none : (out : List ℕ) (r : ℕ) (e : List ℕ) → Laid b x p a t omit out at r e → Laid b x h a t omit out at r e
     laid_none out r e l = rw (w.next, none) l
 
-  -- such a node, whose left child is the entry at position y that begins at l
-  module _ (d : digit x p ≡ 1) (l y : ℕ) (el : l ≡ left_offset_at b o x p) (ey : y ≡ left x p) where
-    other : Stands b l y
-    other = stands_left b o x w.ready.0 p low d l y el ey
-
+  -- such a node, whose left child is the entry at position y of the same log
+  module _ (d : digit x p ≡ 1) (c : List ℕ) (y : ℕ) (ec : c ≡ b) (ey : y ≡ left x p) where
     -- the digests under the right child first
     module _ (q : base x p ≤ t) where
-      two_right : digests_under omit a t (values_of b) x (suc p) ≡ digests_under omit a t (values_of b) x p ++ digests_under false a t (values_of b) y p
-      two_right = under_right omit a t (values_of b) whole x p here d q ∙ rw ey
+      two_right : digests_under omit a t (values_of b) x (suc p) ≡ digests_under omit a t (values_of b) x p ++ digests_under false a t (values_of c) y p
+      two_right = under_right omit a t (values_of b) whole x p here d q ∙ rw (ec, ey)
 
-      room_right : at + (length (digests_under omit a t (values_of b) x p) + length (digests_under false a t (values_of b) y p)) ≤ n
+      room_right : at + (length (digests_under omit a t (values_of b) x p) + length (digests_under false a t (values_of c) y p)) ≤ n
       room_right = rw (two_right, length-append) at room
 
-      pub right_first_lem : Ready b o x p a t omit at n
-      right_first_lem = (w.ready.0, (omega (arith, low), (whole, omega (arith, room_right))))
+      pub right_first_lem : Ready b x p a t omit at n
+      right_first_lem = (omega (arith, low), (whole, omega (arith, room_right)))
 
-      pub left_second : (r : ℕ) → r ≡ at + length (digests_under omit a t (values_of b) x p) → Ready b l y p a t false r n
-      left_second r e = (other, (omega (arith, low), (λ f. true_false f refl, omega (arith, room_right))))
+      pub left_second : (r : ℕ) → r ≡ at + length (digests_under omit a t (values_of b) x p) → Ready c y p a t false r n
+      left_second r e = (omega (arith, low), (λ f. true_false f refl, omega (arith, room_right)))
 
-      pub laid_right : (out : List ℕ) → length out ≡ n → (r s : ℕ) (e f : List ℕ) → Laid b x p a t omit out at r e → Laid b y p a t false e r s f
+      pub laid_right : (out : List ℕ) → length out ≡ n → (r s : ℕ) (e f : List ℕ) → Laid b x p a t omit out at r e → Laid c y p a t false e r s f
           → Laid b x h a t omit out at s f
       laid_right out size r s e f first second =
           rw w.next (put_both out at _ _ _ two_right (omega (arith, room)) r s e f first second)
 
     -- those under the left child first
     module _ (q : t < base x p) where
-      two_left : digests_under omit a t (values_of b) x (suc p) ≡ digests_under omit a t (values_of b) y p ++ digests_under false a t (values_of b) x p
-      two_left = under_left omit a t (values_of b) whole x p here d q ∙ rw ey
+      two_left : digests_under omit a t (values_of b) x (suc p) ≡ digests_under omit a t (values_of c) y p ++ digests_under false a t (values_of b) x p
+      two_left = under_left omit a t (values_of b) whole x p here d q ∙ rw (ec, ey)
 
-      room_left : at + (length (digests_under omit a t (values_of b) y p) + length (digests_under false a t (values_of b) x p)) ≤ n
+      room_left : at + (length (digests_under omit a t (values_of c) y p) + length (digests_under false a t (values_of b) x p)) ≤ n
       room_left = rw (two_left, length-append) at room
 
-      pub left_first : Ready b l y p a t omit at n
-      left_first = (other, (omega (arith, low), (whole, omega (arith, room_left))))
+      pub left_first : Ready c y p a t omit at n
+      left_first = (omega (arith, low), (whole, omega (arith, room_left)))
 
-      pub right_second : (r : ℕ) → r ≡ at + length (digests_under omit a t (values_of b) y p) → Ready b o x p a t false r n
-      right_second r e = (w.ready.0, (omega (arith, low), (λ f. true_false f refl, omega (arith, room_left))))
+      pub right_second : (r : ℕ) → r ≡ at + length (digests_under omit a t (values_of c) y p) → Ready b x p a t false r n
+      right_second r e = (omega (arith, low), (λ f. true_false f refl, omega (arith, room_left)))
 
-      pub laid_left : (out : List ℕ) → length out ≡ n → (r s : ℕ) (e f : List ℕ) → Laid b y p a t omit out at r e → Laid b x p a t false e r s f
+      pub laid_left : (out : List ℕ) → length out ≡ n → (r s : ℕ) (e f : List ℕ) → Laid c y p a t omit out at r e → Laid b x p a t false e r s f
           → Laid b x h a t omit out at s f
       laid_left out size r s e f first second =
           rw w.next (put_both out at _ _ _ two_left (omega (arith, room)) r s e f first second)

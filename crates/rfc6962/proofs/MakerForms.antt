@@ -1,5 +1,6 @@
 -- The path and the consistency proof, as the code makes them of a log that is opened whole.
 -- Assumes nothing.
+use Rattle.std.proofs.Common.{None}
 use mathlib.Core.Bool.{Bool, true, false}
 use mathlib.Core.List.{List}
 use mathlib.Core.Path.{◌≡◌, sym, ap, ◌∙◌}
@@ -12,14 +13,14 @@ use Rattle.slate.specs.Index.{is_index}
 use Rattle.slate.specs.Moves.{hops}
 use Rattle.slate.specs.Tree.{rfc6962}
 use Rattle.entry.specs.Write.{write_at}
-use Rattle.entry.specs.declared.Opened.TheVariants as opened
+use Rattle.entry.specs.Opening.{opening_at}
 use Rattle.ringlog.specs.Answer.{Count, Outcome, counted, refusal, written}
 use Rattle.ringlog.specs.Values.{values_of}
 use Rattle.rfc6962.specs.Consistency.{digest_count, omitted}
 use Rattle.rfc6962.specs.Layouts.{digests_under}
 use Rattle.rfc6962.specs.Prove.{made}
 use Rattle.rfc6962.specs.Rfc6962.{path, proof}
-use Rattle.rfc6962.specs.Whole.{Stands, whole_log}
+use Rattle.rfc6962.specs.Whole.{whole_log}
 use Rattle.slate.proofs.Bits.{whole_base}
 use Rattle.slate.proofs.Inclusion.{inclusion_length, single_path}
 use Rattle.slate.proofs.Indexes.{index_range}
@@ -27,16 +28,16 @@ use Rattle.ringlog.proofs.Outcomes.{Answers, outcome_refused}
 use Rattle.rfc6962.proofs.Makers.{made_out, made_room, made_unformed, made_written}
 use Rattle.rfc6962.proofs.Subproofs.{proof_is, proof_length}
 use Rattle.rfc6962.proofs.Paths.{path_is}
-use Rattle.rfc6962.proofs.WholeForms.{last_stands, unformed, whole_count, whole_few, whole_log_lem}
+use Rattle.rfc6962.proofs.WholeForms.{unformed, whole_count, whole_few, whole_log_lem}
 
 -- b is a log of n values that is opened whole, and i is an index of it
 pub record There (b : List ℕ) (o n i : ℕ) : Type 0 where
   pub bytes : Bytes b
-  pub opens : whole_log b ≡ opened.Log o n
+  pub opens : whole_log b ≡ opening_at o n
   pub within : is_index i n ≡ true
 
 -- by the code's opening and its test of the index
-pub there : {b : List ℕ} {o n i : ℕ} {t : Bool} → Bytes b → opened.Log o n ≡ whole_log b → t ≡ is_index i n → t ≡ true → There b o n i
+pub there : {b : List ℕ} {o n i : ℕ} {t : Bool} → Bytes b → opening_at o n ≡ whole_log b → t ≡ is_index i n → t ≡ true → There b o n i
 there bytes opens is good = record { bytes = bytes; opens = sym opens; within = sym is ∙ good }
 
 -- r bytes d are written
@@ -49,11 +50,11 @@ module _ (b : List ℕ) (i : ℕ) (out : List ℕ) (digests_of : List (List ℕ)
   Made = Answers 0 out (made b i (length out) digests_of)
 
   -- the log is not well formed
-  pub made_6 : whole_log b ≡ opened.Refused → Made (refusal 6) out
+  pub made_6 : whole_log b ≡ None → Made (refusal 6) out
   made_6 e = outcome_refused 0 out _ 6 (made_unformed b i (length out) digests_of (unformed b e))
 
   -- the index is out of range
-  pub made_2 : (o n : ℕ) → whole_log b ≡ opened.Log o n → is_index i n ≡ false → Made (refusal 2) out
+  pub made_2 : (o n : ℕ) → whole_log b ≡ opening_at o n → is_index i n ≡ false → Made (refusal 2) out
   made_2 o n e f =
       outcome_refused 0 out _ 2
       (made_out b i (length out) digests_of (whole_log_lem b o n e) (rw (whole_count b o n e) at f))
@@ -88,9 +89,6 @@ module _ {b : List ℕ} {o n i : ℕ} (w : There b o n i) where
 
   pub high : i ≤ n
   high = (index_range i n w.within).1
-
-  pub stands : Stands b o (n - 1)
-  stands = last_stands b o n w.opens w.bytes (λ z. omega (arith, first, high))
 
   few_values : length (values_of b) ≤ 2 ^ max_height
   few_values = omega (arith, count, few)

@@ -1,5 +1,6 @@
 -- The root of a log, as the code makes it.
 -- Assumes nothing.
+use Rattle.std.proofs.Common.{None}
 use mathlib.Core.List.{List}
 use mathlib.Core.Path.{◌≡◌, sym, ap, ◌∙◌}
 use Prim.Native.Nat.{ℕ, ◌-◌}
@@ -8,9 +9,9 @@ use lib.ListN.{replicate}
 use Rattle.slate.specs.Bytes.{Bytes}
 use Rattle.slate.specs.Digits.{max_height}
 use Rattle.slate.specs.Tree.{empty_root, rfc6962, top}
-use Rattle.entry.specs.declared.Opened.TheVariants as opened
+use Rattle.entry.specs.Opening.{opening_at}
 use Rattle.ringlog.specs.Values.{values_of}
-use Rattle.ringlog.specs.declared.RootAnswer.{RootAnswer}
+use Rattle.ringlog.specs.Answer.{RootAnswer}
 use Rattle.rfc6962.specs.Rfc6962.{mth}
 use Rattle.rfc6962.specs.Root.{root_answer}
 use Rattle.rfc6962.specs.Whole.{whole_log}
@@ -23,11 +24,11 @@ abbrev answered : List ℕ → RootAnswer
 answered d = record { number = 0; digest = d }
 
 module _ (b : List ℕ) where
-  pub root_unformed : whole_log b ≡ opened.Refused → record { number = 6; digest = replicate 32 0 } ≡ root_answer b
+  pub root_unformed : whole_log b ≡ None → record { number = 6; digest = replicate 32 0 } ≡ root_answer b
   unfolding root_answer
   root_unformed e = rw (unformed b e)
 
-  module _ (o n : ℕ) (e : whole_log b ≡ opened.Log o n) where
+  module _ (o n : ℕ) (e : whole_log b ≡ opening_at o n) where
     root_is : root_answer b ≡ answered (mth rfc6962 (values_of b))
     unfolding root_answer
     root_is = rw (whole_log_lem b o n e)

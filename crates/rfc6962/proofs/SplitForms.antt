@@ -1,9 +1,9 @@
--- The split of n values as code finds it, by the leading zeros of n - 1, and what is left of a height behind it.
+-- The split of n values as code finds it, by the highest digit of n - 1, and what is left of a height behind it.
 -- Assumes nothing.
 use mathlib.Core.Path.{◌≡◌, ap, ◌∙◌}
-use Prim.Native.Nat.{ℕ, suc, ◌+◌, ◌*◌, ◌-◌, ◌%◌, ◌^◌, ◌≤◌, ◌<◌}
+use Prim.Native.Nat.{ℕ, suc, ◌*◌, ◌-◌, ◌%◌, ◌^◌, ◌≤◌, ◌<◌}
+use native.Mathlib.Nat.{pow-suc}
 use native.Mathlib.Omega.{arith}
-use lib.Count.{count_leading_zeros, leading_top}
 use lib.Pow.{pow_mono}
 use Rattle.slate.specs.Digits.{max_height}
 use Rattle.slate.proofs.Cases.{by_order}
@@ -11,13 +11,13 @@ use Rattle.slate.proofs.CodeForms.{shifted_one}
 use Rattle.rfc6962.specs.Rfc6962.{k, split_height}
 use Rattle.rfc6962.proofs.Splits.{split_is, split_largest}
 
--- of w digits
-module _ (w n : ℕ) (some : 2 ≤ n) (short : n ≤ 2 ^ w) where
-  -- those above the split's digit are zeros in n - 1
-  pub split_leading : count_leading_zeros w (n - 1) + suc (split_height n) ≡ w
-  split_leading =
-      let t = leading_top w (n - 1) (omega arith) (omega arith) in
-      rw (split_is n t.0 (omega (arith, t.2)) (omega (arith, t.3))) t.1
+-- p is the highest digit of n - 1
+pub split_log : (n p : ℕ) → 2 ≤ n → 2 ^ p ≤ n - 1 → n - 1 < 2 * 2 ^ p → split_height n ≡ p
+split_log n p some low high = split_is n p (omega arith) (omega (arith, pow-suc 2 p))
+
+-- it is one of the digits of the height h
+pub split_low : (p h : ℕ) → 2 ^ p < 2 ^ h → p < h
+split_low p h lt = by_order p h (λ o. o) (λ o. let q : 2 ^ h ≤ 2 ^ p = pow_mono o in absurd (omega arith))
 
 -- a shift makes it of its height
 pub split_shift : (n h : ℕ) → h ≡ split_height n → h < max_height → 1 * 2 ^ h % 4294967296 ≡ k n
@@ -37,7 +37,7 @@ module _ {h m n : ℕ} (w : Fewer h m n) where
   -- either side of the split has at most half the values that the height allows
   fewer_half : k n ≤ 2 ^ (h - 1)
   fewer_half =
-      let l = split_leading h n (omega (arith, w.some, w.less)) w.few in
+      let l = split_low (split_height n) h (omega (arith, split_largest n (omega (arith, w.some, w.less)), w.few)) in
       pow_mono (omega arith)
 
   pub fewer_limit : h ≤ max_height → (2 ≤ n) × (n ≤ 2 ^ max_height)

@@ -6,6 +6,37 @@ ghost use Rattle.rfc6962.specs.Rfc6962.{k, split_height};
 
 use slate::digits::MAX_HEIGHT;
 
+// A log that grows from its first `old` values to `new` values, or is as it was.
+#[derive(Clone, Copy)]
+pub struct Growth {
+    pub old: u32,
+    pub new: u32,
+    pub ghost sizes: { (1 ≤ old) × (old ≤ new) × (new ≤ 2 ^ max_height) },
+}
+
+impl Growth {
+    // Whether a proof of it leaves the digest of the old values out.
+    #[tactic(auto, unfolding(crate::specs::Consistency::omitted))]
+    pub fn is_omitted(self) -> bool
+        ensures { result ≡ omitted self.old self.new }
+    {
+        self.old == self.new || self.old.is_power_of_two()
+    }
+
+    // How many digests a proof of it has.
+    #[tactic(auto, unfolding(slate::specs::Digits::max_height))]
+    pub fn digest_count(self) -> usize
+        ensures value { result ≡ digest_count self.old self.new }
+        ensures upper_bound { result ≤ max_height + 1 }
+    {
+        let siblings = sibling_count(MAX_HEIGHT, self.old, self.new) as usize;
+        if self.is_omitted() {
+            return siblings;
+        }
+        siblings + 1
+    }
+}
+
 // The height of the split: 2 to its power is the largest power of two smaller than n. Internal:
 // 2 ≤ n ≤ 4,096.
 fn split_height(n: u32) -> u32
@@ -13,10 +44,11 @@ fn split_height(n: u32) -> u32
     ensures value { result ≡ split_height n }
     ensures upper_bound { result < max_height }
 {
-    31 - u32::leading_zeros(n - 1)
+    (n - 1).ilog2()
 }
 
 // That power of two. Internal: 2 ≤ n ≤ 4,096.
+#[tactic(auto, using(crate::proofs::SplitForms::split_shift), unfolding(slate::specs::Digits::max_height))]
 fn split_size(n: u32) -> u32
     requires { (2 ≤ n) × (n ≤ 2 ^ max_height) }
     ensures { result ≡ k n }
@@ -24,18 +56,10 @@ fn split_size(n: u32) -> u32
     1 << split_height(n)
 }
 
-// Whether a proof from m to n values leaves the digest of the first m of them out.
-pub fn is_omitted(m: u32, n: u32) -> bool
-    ensures { result ≡ omitted m n }
-{
-    if m == n {
-        return true;
-    }
-    u32::count_ones(m) == 1
-}
-
 // How many siblings are on the way from n values to the first m of them, one for each split.
-// Internal: 1 ≤ m ≤ n ≤ 2^height.
+// Internal: 1 ≤ m ≤ n ≤ 2^height. The height falls with each split, so a bound that stays, as that of a
+// Growth, would say too little.
+#[tactic(auto, unfolding(slate::specs::Digits::max_height))]
 fn sibling_count(height: u32, m: u32, n: u32) -> u32
     requires height_le_max_height { height ≤ max_height }
     requires le_m { (1 ≤ m) × (m ≤ n) × (n ≤ 2 ^ height) }
@@ -50,17 +74,4 @@ fn sibling_count(height: u32, m: u32, n: u32) -> u32
         return sibling_count(height - 1, m, size) + 1;
     }
     sibling_count(height - 1, m - size, n - size) + 1
-}
-
-// How many digests a proof from m to n values has. Internal: 1 ≤ m ≤ n ≤ 4,096.
-pub fn digest_count(m: u32, n: u32) -> usize
-    requires { (1 ≤ m) × (m ≤ n) × (n ≤ 2 ^ max_height) }
-    ensures value { result ≡ digest_count m n }
-    ensures upper_bound { result ≤ max_height + 1 }
-{
-    let siblings = sibling_count(MAX_HEIGHT, m, n) as usize;
-    if is_omitted(m, n) {
-        return siblings;
-    }
-    siblings + 1
 }

@@ -1,92 +1,80 @@
 // The digest of a subtree under RFC 6962's rule, hashed anew from the values: the log has those of
-// its own rule. Internal: the log is well formed.
-ghost use Rattle.std.specs.Prelude.{◌≡◌, ℕ, ◌*◌, ◌≤◌, ◌<◌, length};
-ghost use Rattle.slate.specs.Bytes.{part};
+// its own rule.
+ghost use Rattle.std.specs.Prelude.{◌≡◌, ℕ, ◌≤◌, ◌<◌, [], get_or};
 ghost use Rattle.slate.specs.Digits as digits;
-ghost use Rattle.slate.specs.Length.{offset};
 ghost use Rattle.slate.specs.Tree.{rfc6962, top};
 ghost use Rattle.ringlog.specs.Values.{values_of};
-ghost use Rattle.rfc6962.specs.Whole.{Stands};
 
-use entry::layout::{entry_len_at, left_offset_at};
-use entry::put::put_bytes;
+use crate::whole::WholeEntry;
 use ringlog::find_entry;
 use sha256::tagged::hash_tagged;
-use slate::digits::{MAX_HEIGHT, base, digit, left};
+use slate::digits::{MAX_HEIGHT, base, digit};
 use slate::leaf::leaf_digest;
-
-// The byte before any node; 0x00 is before a leaf.
-pub const NODE_TAG: u8 = 0x01;
+use slate::rule::Rule;
 
 // Room for a digest of each height that a left child may have.
-const LEFTS: usize = 32 * (MAX_HEIGHT as usize);
+const LEFTS: usize = MAX_HEIGHT as usize;
 
-// Of the leaf of the entry at this position that begins at start.
-fn leaf_under(log: &[u8], start: usize, position: u32) -> [u8; 32]
-    requires { Stands log.now start position }
-    ensures { result ≡ top rfc6962 (values_of log.now) position 0 }
-{
-    let found = find_entry(log, start, position as usize);
-    let offset = found.offset;
-    let end = offset + found.length;
-    leaf_digest(&log[offset..end])
-}
+impl<'a> WholeEntry<'a> {
+    // The digest of its leaf.
+    fn leaf_digest(&self) -> [u8; 32]
+        ensures { result ≡ top rfc6962 (values_of self.now.log.now) self.now.position 0 }
+    {
+        let found = find_entry(self.log, self.start, self.position as usize).unwrap();
+        let end = found.offset + found.length;
+        leaf_digest(&self.log[found.offset..end])
+    }
 
-// Of the highest node of height at most `height` of that entry; of the leaf, where there is none. The
-// digests of the left children of its nodes are given: that of height p from 32·p on.
-fn digest_over(log: &[u8], start: usize, position: u32, height: u32, lefts: &[u8]) -> [u8; 32]
-    requires stands { Stands log.now start position }
-    requires height_le_max_height { (height ≤ digits.max_height) × (length lefts.now ≡ 32 * digits.max_height) }
-    requires by_index { (p : ℕ) → p < height → digits.digit position p ≡ 1 → part lefts.now (32 * p) 32 ≡ top rfc6962 (values_of log.now) (digits.left position p) p }
-    ensures { result ≡ top rfc6962 (values_of log.now) position height }
-{
-    let mut own = leaf_under(log, start, position);
-    for p in 0..height {
-        if digit(position, p) == 0 {
-            continue;
+    // That of its highest node of height at most `height`; of the leaf, where there is none. The
+    // digests of the left children of its nodes are given, each at its height.
+    #[tactic(auto, unfolding(slate::specs::Digits::max_height))]
+    fn digest_over(&self, height: u32, lefts: &[[u8; 32]; LEFTS]) -> [u8; 32]
+        requires height_le_max_height { height ≤ digits.max_height }
+        requires by_index { (p : ℕ) → p < height → digits.digit self.now.position p ≡ 1 → get_or lefts.now p [] ≡ top rfc6962 (values_of self.now.log.now) (digits.left self.now.position p) p }
+        ensures { result ≡ top rfc6962 (values_of self.now.log.now) self.now.position height }
+    {
+        let mut own = self.leaf_digest();
+        for p in 0..height {
+            if digit(self.position, p) == 0 {
+                continue;
+            }
+            let tag = Rule::Rfc6962.node_tag(p + 1);
+            own = hash_tagged(tag, &lefts[p as usize], &own);
         }
-        let at = 32 * (p as usize);
-        let node = hash_tagged(NODE_TAG, &lefts[at..at + 32], &own);
-        own = node;
+        own
     }
-    own
-}
 
-// Where the first entry under that node begins.
-fn first_start(log: &[u8], start: usize, position: u32, height: u32) -> usize
-    requires stands { Stands log.now start position }
-    requires height_le_max_height { height ≤ digits.max_height }
-    ensures { result ≡ offset (values_of log.now) (digits.base position height) }
-{
-    let mut at = start;
-    let mut x = position;
-    let mut p = height;
-    while 0 < p {
-        p -= 1;
-        if digit(x, p) == 1 {
-            at = left_offset_at(log, at, x, p) as usize;
-            x = left(x, p);
+    // The first entry under that node.
+    #[tactic(auto, unfolding(slate::specs::Digits::max_height))]
+    fn first_under(&self, height: u32) -> WholeEntry<'a>
+        requires { height ≤ digits.max_height }
+        ensures log { result.log.now ≡ self.now.log.now }
+        ensures position { result.position ≡ digits.base self.now.position height }
+    {
+        let mut entry = *self;
+        for p in (0..height).rev() {
+            if digit(entry.position, p) == 1 {
+                entry = entry.left(p);
+            }
         }
+        entry
     }
-    at
-}
 
-// The digest of that node with no other given, in one pass over the entries under it: each but the
-// last has the left child of one node of the next entry.
-pub fn digest_under(log: &[u8], start: usize, position: u32, height: u32) -> [u8; 32]
-    requires stands { Stands log.now start position }
-    requires height_le_max_height { height ≤ digits.max_height }
-    ensures { result ≡ top rfc6962 (values_of log.now) position height }
-{
-    let mut lefts = [0u8; LEFTS];
-    let mut at = first_start(log, start, position, height);
-    let first = base(position, height);
-    for x in first..position {
-        // The next position's lowest digit: that node has height p + 1.
-        let p = u32::trailing_zeros(x + 1);
-        let digest = digest_over(log, at, x, p, &lefts);
-        put_bytes(&mut lefts, 32 * (p as usize), &digest);
-        at += entry_len_at(log, at, x);
+    // The digest of that node with no other given, in one pass over the entries under it: each but
+    // the last has the left child of one node of the next entry.
+    #[tactic(auto, unfolding(slate::specs::Digits::max_height))]
+    pub fn digest_under(&self, height: u32) -> [u8; 32]
+        requires { height ≤ digits.max_height }
+        ensures { result ≡ top rfc6962 (values_of self.now.log.now) self.now.position height }
+    {
+        let mut lefts = [[0u8; 32]; LEFTS];
+        let mut entry = self.first_under(height);
+        for x in base(self.position, height)..self.position {
+            // The next position's lowest digit: that node has height p + 1.
+            let p = (x + 1).trailing_zeros();
+            lefts[p as usize] = entry.digest_over(p, &lefts);
+            entry = entry.next();
+        }
+        self.digest_over(height, &lefts)
     }
-    digest_over(log, start, position, height, &lefts)
 }

@@ -1,13 +1,12 @@
 -- What is claimed of the structs of include/ringlog.h: each field has what the answer's field of that name has. Each claim is a type, and
 -- proofs/ has its proof.
 use Rattle.std.specs.Prelude.{◌≡◌}
-use Rattle.sha256.specs.declared.Hashed.{Hashed}
-use Rattle.ringlog.specs.Answer.{Count}
+use Rattle.sha256.specs.Answer.{Hashed}
+use Rattle.ringlog.specs.Answer.{Count, RootAnswer}
 use Rattle.ringlog.specs.declared.Audited.{Audited}
-use Rattle.ringlog.specs.declared.RootAnswer.{RootAnswer}
-use Rattle.inclusion.specs.declared.Part.{Part}
+use Rattle.inclusion.specs.Value.{PartAnswer}
 use Rattle.split.specs.Answer.{Split}
-use Rattle.split.specs.declared.Piece.{Piece}
+use Rattle.split.specs.Repair.{Piece}
 use Rattle.ringlog_c.specs.Wire.{count_wire, digest_wire, extent_wire, part_wire, piece_wire, root_wire, split_wire}
 
 -- of append, cut and proof, and of the path and the consistency proof of the RFC 6962 edition
@@ -29,7 +28,7 @@ RootFields = (a : RootAnswer) → ((root_wire a).number ≡ a.number) × ((root_
 -- of checked value
 abbrev pub PartFields : Type 0
 PartFields =
-    (a : Part) → ((part_wire a).number ≡ a.number) × ((part_wire a).offset ≡ a.offset) × ((part_wire a).length ≡ a.length)
+    (a : PartAnswer) → ((part_wire a).number ≡ a.number) × ((part_wire a).offset ≡ a.offset) × ((part_wire a).length ≡ a.length)
 
 -- of search
 abbrev pub SplitFields : Type 0

@@ -1,11 +1,10 @@
 -- What each struct of include/ringlog.h holds.
-use Rattle.sha256.specs.declared.Hashed.{Hashed}
-use Rattle.ringlog.specs.Answer.{Count}
+use Rattle.sha256.specs.Answer.{Hashed}
+use Rattle.ringlog.specs.Answer.{Count, RootAnswer}
 use Rattle.ringlog.specs.declared.Audited.{Audited}
-use Rattle.ringlog.specs.declared.RootAnswer.{RootAnswer}
-use Rattle.inclusion.specs.declared.Part.{Part}
+use Rattle.inclusion.specs.Value.{PartAnswer}
 use Rattle.split.specs.Answer.{Split}
-use Rattle.split.specs.declared.Piece.{Piece}
+use Rattle.split.specs.Repair.{Piece}
 use Rattle.ringlog_c.specs.declared.CountWire.{CountWire}
 use Rattle.ringlog_c.specs.declared.DigestWire.{DigestWire}
 use Rattle.ringlog_c.specs.declared.ExtentWire.{ExtentWire}
@@ -29,7 +28,7 @@ abbrev pub root_wire : RootAnswer → DigestWire
 root_wire answer = record { number = answer.number; digest = answer.digest }
 
 -- struct ringlog_part: the number, and where the part lies in the lent log
-abbrev pub part_wire : Part → PartWire
+abbrev pub part_wire : PartAnswer → PartWire
 part_wire p = record { number = p.number; offset = p.offset; length = p.length }
 
 -- struct ringlog_split: the numbers of the search's answer, or of its refusal

@@ -6,26 +6,29 @@
 #![tactic(auto)]
 
 ghost use Rattle.std.specs.Prelude.{◌≡◌, length};
-ghost use Rattle.sha256.specs.Answer.{hashed};
+ghost use Rattle.sha256.specs.Answer.{hashed, hashed_of};
 ghost use Rattle.slate.specs.Tree.{rfc6962, slate};
-ghost use Rattle.ringlog.specs.Answer.{after, answer, count_of};
+ghost use Rattle.ringlog.specs.Answer.{after, answer, count_of, root_answer_of};
 ghost use Rattle.ringlog.specs.Append.{appended};
 ghost use Rattle.ringlog.specs.Audit.{Longest, audited};
 ghost use Rattle.ringlog.specs.Cut.{after_cut, cut_to};
 ghost use Rattle.ringlog.specs.Root.{root_answer};
 ghost use Rattle.inclusion.specs.Check.{proof_holds};
 ghost use Rattle.inclusion.specs.Prove.{proof_of};
-ghost use Rattle.inclusion.specs.Value.{checked_value};
+ghost use Rattle.inclusion.specs.Value.{checked_value, part_answer_of};
 ghost use Rattle.split.specs.Answer.{answer_of, split_of};
-ghost use Rattle.split.specs.Repair.{place_of};
+ghost use Rattle.split.specs.Repair.{numbered, place_of};
 ghost use Rattle.split.specs.Search.{searched};
 ghost use Rattle.rfc6962.specs.Consistency.{consistency_holds};
 ghost use Rattle.rfc6962.specs.Prove.{consistency_of, path_of};
 ghost use Rattle.rfc6962.specs.Root as rfc;
 ghost use Rattle.ringlog_c.specs.Wire.{count_wire, digest_wire, extent_wire, part_wire, piece_wire, root_wire, split_wire};
 
-use ringlog::{Counted, RootAnswer};
-use split::SearchAnswer;
+use entry::Cause;
+use inclusion::Part;
+use ringlog::Audited;
+use sha256::TooLong;
+use split::{Donor, Piece, SearchAnswer, SearchRefusal};
 
 // struct ringlog_count
 #[repr(C)]
@@ -82,32 +85,137 @@ pub struct PieceWire {
     pub length: u64,
 }
 
+// A number of bytes or a refusal, by the numbers of document 01.
+impl From<Result<usize, Cause>> for CountWire {
+    ghost from_gives = { λ answer wire. wire ≡ count_wire (count_of answer) };
+
+    fn from(answer: Result<usize, Cause>) -> CountWire {
+        match answer {
+            Ok(bytes) => CountWire {
+                number: 0,
+                value: bytes as u64,
+            },
+            Err(cause) => CountWire {
+                number: u32::from(cause),
+                value: 0,
+            },
+        }
+    }
+}
+
+impl From<Audited> for ExtentWire {
+    ghost from_gives = { λ audited wire. wire ≡ extent_wire audited };
+
+    fn from(audited: Audited) -> ExtentWire {
+        ExtentWire {
+            entries: audited.entries as u64,
+            bytes: audited.bytes as u64,
+        }
+    }
+}
+
+// A message that is too long is refused with 1.
+impl From<Result<[u8; 32], TooLong>> for DigestWire {
+    ghost from_gives = { λ answer wire. wire ≡ digest_wire (hashed_of answer) };
+
+    fn from(answer: Result<[u8; 32], TooLong>) -> DigestWire {
+        match answer {
+            Ok(digest) => DigestWire { number: 0, digest },
+            Err(TooLong) => DigestWire {
+                number: 1,
+                digest: [0; 32],
+            },
+        }
+    }
+}
+
+// A root or a refusal.
+impl From<Result<[u8; 32], Cause>> for DigestWire {
+    ghost from_gives = { λ answer wire. wire ≡ root_wire (root_answer_of answer) };
+
+    fn from(answer: Result<[u8; 32], Cause>) -> DigestWire {
+        match answer {
+            Ok(digest) => DigestWire { number: 0, digest },
+            Err(cause) => DigestWire {
+                number: u32::from(cause),
+                digest: [0; 32],
+            },
+        }
+    }
+}
+
+impl From<Result<Part, Cause>> for PartWire {
+    ghost from_gives = { λ answer wire. wire ≡ part_wire (part_answer_of answer) };
+
+    fn from(answer: Result<Part, Cause>) -> PartWire {
+        match answer {
+            Ok(part) => PartWire {
+                number: 0,
+                offset: part.offset as u64,
+                length: part.length as u64,
+            },
+            Err(cause) => PartWire {
+                number: u32::from(cause),
+                offset: 0,
+                length: 0,
+            },
+        }
+    }
+}
+
+// The search's answer or its refusal, by numbers.
+impl From<Result<SearchAnswer, SearchRefusal>> for SplitWire {
+    ghost from_gives = { λ answer wire. wire ≡ split_wire (answer_of answer) };
+
+    fn from(answer: Result<SearchAnswer, SearchRefusal>) -> SplitWire {
+        match answer {
+            Ok(found) => SplitWire {
+                number: 0,
+                side: 0,
+                common: found.common as u64,
+                verdict: found.verdict.number(),
+                place: found.verdict.place().unwrap_or(0) as u64,
+                first_reads: found.first_reads as u64,
+                second_reads: found.second_reads as u64,
+            },
+            Err(refusal) => SplitWire {
+                number: u32::from(refusal.cause),
+                side: u32::from(refusal.side),
+                common: 0,
+                verdict: 0,
+                place: 0,
+                first_reads: 0,
+                second_reads: 0,
+            },
+        }
+    }
+}
+
+// The donor by its number, 0 where there is none.
+impl From<Option<Piece>> for PieceWire {
+    ghost from_gives = { λ piece wire. wire ≡ piece_wire (numbered piece) };
+
+    fn from(piece: Option<Piece>) -> PieceWire {
+        match piece {
+            Some(piece) => PieceWire {
+                donor: u32::from(piece.donor),
+                offset: piece.offset as u64,
+                length: piece.length as u64,
+            },
+            None => PieceWire {
+                donor: 0,
+                offset: 0,
+                length: 0,
+            },
+        }
+    }
+}
+
 #[unsafe(no_mangle)]
 pub extern "C" fn ringlog_sha256(message: &[u8]) -> DigestWire
     ensures { result ≡ digest_wire (hashed message.now) }
 {
-    let hashed = sha256::sha256(message);
-    let digest = hashed.digest;
-    DigestWire {
-        number: hashed.number,
-        digest,
-    }
-}
-
-// A number of bytes or a refusal, by the numbers of document 01.
-fn count_wire(answer: Counted) -> CountWire
-    ensures { result ≡ count_wire (count_of answer) }
-{
-    match answer {
-        Counted::Done(bytes) => CountWire {
-            number: 0,
-            value: bytes as u64,
-        },
-        Counted::Refused(cause) => CountWire {
-            number: cause.number(),
-            value: 0,
-        },
-    }
+    DigestWire::from(sha256::sha256(message))
 }
 
 #[unsafe(no_mangle)]
@@ -115,7 +223,7 @@ pub extern "C" fn ringlog_append(buffer: &mut [u8], used: usize, item: &[u8]) ->
     ensures value { result ≡ count_wire (answer used (appended buffer.old used item.now)) }
     ensures buffer_after { buffer.new ≡ after buffer.old used (appended buffer.old used item.now) }
 {
-    count_wire(ringlog::append(buffer, used, item))
+    CountWire::from(ringlog::append(buffer, used, item))
 }
 
 #[unsafe(no_mangle)]
@@ -123,29 +231,14 @@ pub extern "C" fn ringlog_audit(bytes: &[u8]) -> ExtentWire
     ensures value { result ≡ extent_wire (audited bytes.now) }
     ensures longest { Longest bytes.now (record { entries = result.entries; bytes = result.bytes }) }
 {
-    let audited = ringlog::audit(bytes);
-    ExtentWire {
-        entries: audited.entries as u64,
-        bytes: audited.bytes as u64,
-    }
-}
-
-// A root or a refusal.
-fn root_wire(answer: RootAnswer) -> DigestWire
-    ensures { result ≡ root_wire answer }
-{
-    let digest = answer.digest;
-    DigestWire {
-        number: answer.number,
-        digest,
-    }
+    ExtentWire::from(ringlog::audit(bytes))
 }
 
 #[unsafe(no_mangle)]
 pub extern "C" fn ringlog_root(log: &[u8]) -> DigestWire
     ensures { result ≡ root_wire (root_answer log.now) }
 {
-    root_wire(ringlog::root(log))
+    DigestWire::from(ringlog::root(log))
 }
 
 #[unsafe(no_mangle)]
@@ -153,19 +246,14 @@ pub extern "C" fn ringlog_cut(buffer: &mut [u8], used: usize, count: usize) -> C
     ensures value { result ≡ count_wire (cut_to buffer.old used count) }
     ensures buffer_after { buffer.new ≡ after_cut buffer.old used count }
 {
-    count_wire(ringlog::cut(buffer, used, count))
+    CountWire::from(ringlog::cut(buffer, used, count))
 }
 
 #[unsafe(no_mangle)]
 pub extern "C" fn ringlog_value(log: &[u8], root: &[u8], index: usize) -> PartWire
     ensures { result ≡ part_wire (checked_value log.now root.now index) }
 {
-    let place = inclusion::value_place(log, root, index);
-    PartWire {
-        number: place.number,
-        offset: place.offset as u64,
-        length: place.length as u64,
-    }
+    PartWire::from(inclusion::value_place(log, root, index))
 }
 
 #[unsafe(no_mangle)]
@@ -173,7 +261,7 @@ pub extern "C" fn ringlog_proof(log: &[u8], index: usize, output: &mut [u8]) -> 
     ensures value { result ≡ count_wire (answer 0 (proof_of log.now index (length output.old))) }
     ensures output_after { output.new ≡ after output.old 0 (proof_of log.now index (length output.old)) }
 {
-    count_wire(inclusion::proof(log, index, output))
+    CountWire::from(inclusion::proof(log, index, output))
 }
 
 #[unsafe(no_mangle)]
@@ -189,61 +277,25 @@ pub extern "C" fn ringlog_check_proof(
     inclusion::check_proof(count, index, item, proof, root)
 }
 
-// The search's answer or its refusal, by numbers.
-fn split_wire(answer: SearchAnswer) -> SplitWire
-    ensures { result ≡ split_wire (answer_of answer) }
-{
-    match answer {
-        SearchAnswer::Answered {
-            common,
-            verdict,
-            first_reads,
-            second_reads,
-        } => SplitWire {
-            number: 0,
-            side: 0,
-            common: common as u64,
-            verdict: verdict.number(),
-            place: verdict.place() as u64,
-            first_reads: first_reads as u64,
-            second_reads: second_reads as u64,
-        },
-        SearchAnswer::Refused(side, cause) => SplitWire {
-            number: cause.number(),
-            side: side.number(),
-            common: 0,
-            verdict: 0,
-            place: 0,
-            first_reads: 0,
-            second_reads: 0,
-        },
-    }
-}
-
 #[unsafe(no_mangle)]
 pub extern "C" fn ringlog_search(first: &[u8], second: &[u8]) -> SplitWire
     ensures { result ≡ split_wire (split_of (searched first.now second.now)) }
 {
-    split_wire(split::search(first, second))
+    SplitWire::from(split::search(first, second))
 }
 
 #[unsafe(no_mangle)]
 pub extern "C" fn ringlog_repair(first: &[u8], second: &[u8]) -> PieceWire
     ensures { result ≡ piece_wire (place_of first.now second.now (searched first.now second.now)) }
 {
-    let piece = split::repair_place(first, second);
-    PieceWire {
-        donor: piece.donor,
-        offset: piece.offset as u64,
-        length: piece.length as u64,
-    }
+    PieceWire::from(split::repair_place(first, second))
 }
 
 #[unsafe(no_mangle)]
 pub extern "C" fn ringlog_rfc6962_root(log: &[u8]) -> DigestWire
     ensures { result ≡ root_wire (rfc.root_answer log.now) }
 {
-    root_wire(rfc6962::root(log))
+    DigestWire::from(rfc6962::root(log))
 }
 
 #[unsafe(no_mangle)]
@@ -251,7 +303,7 @@ pub extern "C" fn ringlog_rfc6962_path(log: &[u8], index: usize, output: &mut [u
     ensures value { result ≡ count_wire (answer 0 (path_of log.now index (length output.old))) }
     ensures output_after { output.new ≡ after output.old 0 (path_of log.now index (length output.old)) }
 {
-    count_wire(rfc6962::path(log, index, output))
+    CountWire::from(rfc6962::path(log, index, output))
 }
 
 #[unsafe(no_mangle)]
@@ -272,7 +324,7 @@ pub extern "C" fn ringlog_rfc6962_consistency(log: &[u8], m: usize, output: &mut
     ensures value { result ≡ count_wire (answer 0 (consistency_of log.now m (length output.old))) }
     ensures output_after { output.new ≡ after output.old 0 (consistency_of log.now m (length output.old)) }
 {
-    count_wire(rfc6962::consistency(log, m, output))
+    CountWire::from(rfc6962::consistency(log, m, output))
 }
 
 #[unsafe(no_mangle)]

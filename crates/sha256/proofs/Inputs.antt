@@ -1,20 +1,18 @@
--- The length of an input, and what a message's and a node's blocks ask for.
+-- The length of an input.
 -- Assumes nothing.
-use Rattle.std.proofs.Common.{◌≡◌, ℕ, ◌+◌, ◌/◌, ◌<◌, ◌≤◌, Bool, true, false, List, length, refl, arith, length-append}
+use Rattle.std.proofs.Common.{◌≡◌, ℕ, ◌≤◌, List, length, subst, arith, length-append}
+use Rattle.std.specs.Borrow.{Bor}
 use Rattle.sha256.specs.Input.{InputFits, input}
-use Rattle.sha256.specs.Pick.{pick}
+use Rattle.sha256.specs.declared.input.Input.{Input}
+use Rattle.sha256.specs.declared.input.Input.TheVariants.{Message, Node}
 
-pub input_short : (node : Bool) (x y : List ℕ) → InputFits node x y → pick node 65 (length y) ≤ 65535
-input_short true x y fits = omega arith
-input_short false x y fits = fits
+-- of a node's
+pub node_size : (s : Input) (tag : ℕ) (left right : Bor (List ℕ)) → s ≡ Node tag left right → InputFits s → 65 ≡ length (input s)
+node_size s tag left right e fits =
+    let both : InputFits (Node tag left right) = subst InputFits e fits in
+    rw e (omega (arith, length-append left.now right.now, both.0, both.1))
 
-pub input_size : (node : Bool) (t : ℕ) (x y : List ℕ) → InputFits node x y → length (input node t x y) ≡ pick node 65 (length y)
-input_size true t x y fits = omega (arith, length-append x y, fits.0, fits.1)
-input_size false t x y fits = refl
-
-module _ (node : Bool) (x y : List ℕ) (i : ℕ) (fits : InputFits node x y) (one : i < (pick node 65 (length y) + 72) / 64) where
-  pub of_message : node ≡ false → (length y ≤ 65535) × (i < (length y + 72) / 64)
-  of_message e = (rw e at fits, rw e at one)
-
-  pub of_node : node ≡ true → ((length x ≡ 32) × (length y ≡ 32)) × (i < 2)
-  of_node e = (rw e at fits, rw e at one)
+-- it is not too long to be hashed
+pub input_short : (s : Input) → InputFits s → length (input s) ≤ 65535
+input_short (Message m) fits = fits
+input_short (Node tag left right) fits = omega (arith, length-append left.now right.now, fits.0, fits.1)

@@ -1,5 +1,6 @@
 pub mod Answers
 pub mod Bitwise
+pub mod Counted
 pub mod DigestBytes
 pub mod Inputs
 pub mod MessageSchedule

@@ -72,6 +72,11 @@ words_kept M t block low high = (
       ap (λ (n : ℕ). get_or (kept M t) n 0) (omega arith) ∙ rolled_each M block _ u (omega arith) (omega arith),
 )
 
+-- until a word is made the block is kept as it is loaded
+pub kept_early : (M : List ℕ) (n : ℕ) → n ≡ 0 → rolled_by M n ≡ M
+unfolding rolled_by
+kept_early M n e = rw e
+
 -- the word behind n words more
 pub made_next : (M : List ℕ) (n t : ℕ) → length M ≡ 16 → t ≡ 16 + n → made (rolled_by M n) t ≡ W M t
 made_next M n t block e = made_word M t (rolled_by M n) (omega arith) (λ u from to. rolled_each M block n u (omega arith) (omega arith))

@@ -1,10 +1,10 @@
 -- Rounds, one after the other.
 -- Assumes nothing.
-use Rattle.std.proofs.Common.{◌≡◌, ℕ, ◌+◌, ◌/◌, true, ltb, List, length, get_or, sym, refl, ap, ◌∙◌, ap₂, add-one, arith, ltb-true}
+use Rattle.std.proofs.Common.{◌≡◌, ℕ, suc, ◌+◌, ◌/◌, List, length, ap, ◌∙◌, ap₂, add-one, arith}
 use Rattle.sha256.specs.Fips180.{W, K, H, block, bytes_of, compressed, hash_words, padded, round, rounds, sha256}
 use Rattle.sha256.specs.Rounds.{Ran}
+use Rattle.sha256.specs.Window.{rolled_by}
 use Rattle.sha256.specs.declared.State.{State}
-use Rattle.sha256.proofs.MessageSchedule.{W-early}
 use Rattle.sha256.proofs.Padding.{padded_length}
 
 rounds_more : (M : List ℕ) (i : State) (t : ℕ) → rounds M i (t + 1) ≡ round (rounds M i t) (K t) (W M t)
@@ -16,20 +16,23 @@ pub round_step : (M : List ℕ) (i s r : State) (t k w : ℕ) → k ≡ K t → 
     → r ≡ rounds M i (t + 1)
 round_step M i s r t k w ek es ew er = cc (rounds_more M i t)
 
--- s are the working variables after the rounds 0 to t − 1 on block M, from i on
-pub record After (M : List ℕ) (i : State) (t : ℕ) (s : State) : Type 0 where
-  pub state : s ≡ rounds M i t
+-- n rounds from round t on
+pub record Rounds (t n : ℕ) (s : State) (w : List ℕ) (r : State) (v : List ℕ) : Type 0 where
+  pub all : Ran t (t + n) s w r v
 
-pub none : (M : List ℕ) (i : State) → After M i 0 i
-unfolding rounds
-none M i = record { state = refl }
+pub one : {t : ℕ} {s r : State} {w v : List ℕ} → Ran t (t + 1) s w r v → Rounds t 1 s w r v
+one f = record { all = f }
 
 infixl 20 ◌next◌
--- one of the first sixteen rounds, whose word is the block's; at numerals its test and its constant are computed
-pub ◌next◌ : {M : List ℕ} {i s r : State} {t k : ℕ} → After M i t s → (ltb t 16 ≡ true) × (k ≡ K t) × (r ≡ round s k (get_or M t 0))
-    → After M i (t + 1) r
-◌next◌ {M} {i} {s} {r} {t} {k} before now = record {
-  state = round_step M i s r t k _ now.1 before.state (sym (W-early M t (ltb-true t 16 now.0))) now.2;
+-- and one round more
+pub ◌next◌ : {t n : ℕ} {s r q : State} {w v y : List ℕ} → Rounds t n s w r v → Ran (t + n) (t + n + 1) r v q y → Rounds t (suc n) s w q y
+f next g = record {
+  all = record {
+    ran = λ M i block k e.
+        let a = f.all.ran M i block k e in
+        let b = g.ran M i block a.1 a.0 in
+        (b.0 ∙ ap (rounds M i) (omega arith), b.1 ∙ ap (rolled_by M) (omega arith));
+  };
 }
 
 infixr 20 ◌then◌

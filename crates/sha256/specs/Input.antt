@@ -1,11 +1,14 @@
 -- What the code hashes in one loop: a message, or a node's input.
-use Rattle.std.specs.Prelude.{◌≡◌, ℕ, ◌≤◌, Bool, List, ◌∷◌, ◌++◌, length}
-use Rattle.sha256.specs.Pick.{pick}
+use Rattle.std.specs.Prelude.{◌≡◌, ℕ, ◌≤◌, List, ◌∷◌, ◌++◌, length}
+use Rattle.sha256.specs.declared.input.Input.{Input}
+use Rattle.sha256.specs.declared.input.Input.TheVariants.{Message, Node}
 
--- of a node the tag and both parts, else the second part alone
-abbrev pub input : Bool → ℕ → List ℕ → List ℕ → List ℕ
-input node tag x y = pick node (tag ∷ (x ++ y)) y
+-- a message itself, and of a node the tag and both digests
+abbrev pub input : Input → List ℕ
+input (Message m) = m.now
+input (Node tag left right) = tag ∷ (left.now ++ right.now)
 
--- the parts of a node are two digests, and a message is not too long
-abbrev pub InputFits : Bool → List ℕ → List ℕ → Type 0
-InputFits node x y = pick node ((length x ≡ 32) × (length y ≡ 32)) (length y ≤ 65535)
+-- a message is not too long, and a digest has 32 bytes
+abbrev pub InputFits : Input → Type 0
+InputFits (Message m) = length m.now ≤ 65535
+InputFits (Node tag left right) = (length left.now ≡ 32) × (length right.now ≡ 32)

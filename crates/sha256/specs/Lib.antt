@@ -5,6 +5,5 @@ pub mod Input
 pub mod Pick
 pub mod Reasons
 pub mod Rounds
-pub mod Store
 pub mod Tail
 pub mod Window

@@ -1,56 +1,59 @@
 // The digest of an input: a message, or what is hashed for a node. One loop takes the blocks of both,
 // so that the compression, which is most of the code, stands in the library once.
-ghost use Rattle.std.specs.Prelude.{◌≡◌, ◌+◌, ◌/◌, ◌<◌, ◌≤◌, length};
+ghost use Rattle.std.specs.Prelude.{◌≡◌, ◌+◌, ◌/◌, ◌<◌, length};
 ghost use Rattle.sha256.specs.Fips180 as fips;
 ghost use Rattle.sha256.specs.Input.{InputFits, input};
-ghost use Rattle.sha256.specs.Pick.{pick};
 
 use crate::hash_value::{digest_of, initial};
 use crate::message::{block, block_count};
 use crate::node::node_block;
 use crate::rounds::compress;
 
-// How many bytes the input has.
-fn input_len(node: bool, second: &[u8]) -> usize
-    ensures { result ≡ pick node 65 (length second.now) }
-{
-    if node {
-        return 65;
-    }
-    second.len()
+// What is hashed: a message, or of a node a tag byte and its two digests, where these stand.
+#[derive(Drop)]
+pub enum Input<'a> {
+    Message(&'a [u8]),
+    Node {
+        tag: u8,
+        left: &'a [u8; 32],
+        right: &'a [u8; 32],
+    },
 }
 
-// Block i of the padded input, from 0.
-fn input_block(node: bool, tag: u8, first: &[u8], second: &[u8], i: usize) -> [u32; 16]
-    requires input_fits { InputFits node first.now second.now }
-    requires i_bound { i < (pick node 65 (length second.now) + 72) / 64 }
-    ensures { result ≡ fips.block (fips.padded (input node tag first.now second.now)) i }
-{
-    if !node {
-        return block(second, i);
+impl Input<'_> {
+    // How many bytes the input has.
+    fn len(&self) -> usize
+        requires { InputFits self.now }
+        ensures { result ≡ length (input self.now) }
+    {
+        match *self {
+            Input::Message(message) => message.len(),
+            Input::Node { .. } => 65,
+        }
     }
-    node_block(tag, first, second, i)
-}
 
-// The digest of a node's input, the tag and two digests; or else of the second part alone, a message
-// that is not too long.
-pub fn input_digest(node: bool, tag: u8, first: &[u8], second: &[u8]) -> [u8; 32]
-    requires { InputFits node first.now second.now }
-    ensures { result ≡ fips.sha256 (input node tag first.now second.now) }
-{
-    let count = block_count(input_len(node, second));
-    let mut state = initial();
-    for i in 0..count {
-        let mut w = input_block(node, tag, first, second, i);
-        state = compress(state, &mut w);
+    // Block i of the padded input, from 0.
+    fn block(&self, i: usize) -> [u32; 16]
+        requires fits { InputFits self.now }
+        requires i_bound { i < (length (input self.now) + 72) / 64 }
+        ensures { result ≡ fips.block (fips.padded (input self.now)) i }
+    {
+        match *self {
+            Input::Message(message) => block(message, i),
+            Input::Node { tag, left, right } => node_block(tag, left, right, i),
+        }
     }
-    digest_of(state)
-}
 
-// The digest of a message that is not too long.
-pub fn digest(message: &[u8]) -> [u8; 32]
-    requires { length message.now ≤ 65535 }
-    ensures { result ≡ fips.sha256 message.now }
-{
-    input_digest(false, 0, message, message)
+    // The digest of the input: of a message that is not too long.
+    pub fn digest(&self) -> [u8; 32]
+        requires { InputFits self.now }
+        ensures { result ≡ fips.sha256 (input self.now) }
+    {
+        let mut state = initial();
+        for i in 0..block_count(self.len()) {
+            let mut w = self.block(i);
+            state = compress(state, &mut w);
+        }
+        digest_of(state)
+    }
 }

@@ -14,16 +14,13 @@ pub mod tagged;
 mod word;
 
 ghost use Rattle.std.specs.Prelude.{◌≡◌};
-ghost use Rattle.sha256.specs.Answer.{hashed};
+ghost use Rattle.sha256.specs.Answer.{hashed, hashed_of};
 
-use input::digest;
+use input::Input;
 
-// The answer to a message: number 0 and its digest, or the refusal 1 and zeros.
-#[derive(Drop)]
-pub struct Hashed {
-    pub number: u32,
-    pub digest: [u8; 32],
-}
+// The refusal of a message of more than 65,535 bytes.
+#[derive(Clone, Copy, PartialEq, Eq, Debug)]
+pub struct TooLong;
 
 // Eight words: the working variables a to h, or a hash value H_0 to H_7.
 #[derive(Clone, Copy)]
@@ -38,18 +35,12 @@ pub struct State {
     pub h: u32,
 }
 
-// The digest of a message of at most 65,535 bytes. A longer one is refused with 1.
-pub fn sha256(message: &[u8]) -> Hashed
-    ensures { result ≡ hashed message.now }
+// The digest of a message of at most 65,535 bytes. A longer one is refused.
+pub fn sha256(message: &[u8]) -> Result<[u8; 32], TooLong>
+    ensures { hashed_of result ≡ hashed message.now }
 {
     if 65535 < message.len() {
-        return Hashed {
-            number: 1,
-            digest: [0u8; 32],
-        };
+        return Err(TooLong);
     }
-    Hashed {
-        number: 0,
-        digest: digest(message),
-    }
+    Ok(Input::Message(message).digest())
 }

@@ -1,6 +1,6 @@
 // FIPS 180-4, sections 5.1.1 and 5.2.1: the blocks of the padded message, each made from the
 // message where it is needed. No padded copy is kept.
-ghost use Rattle.std.specs.Prelude.{◌≡◌, ◌+◌, ◌*◌, ◌/◌, ◌<◌, ◌≤◌, [], ◌∷◌, ◌++◌, length, slice_index};
+ghost use Rattle.std.specs.Prelude.{◌≡◌, ℕ, ◌+◌, ◌*◌, ◌/◌, ◌<◌, ◌≤◌, [], ◌∷◌, ◌++◌, length, slice_index};
 ghost use Rattle.sha256.specs.Fips180 as fips;
 ghost use Rattle.sha256.specs.Tail.{Ends};
 
@@ -23,14 +23,11 @@ pub fn word(m: &[u8], j: usize) -> u32
 fn ended_byte(m: &[u8], j: usize) -> u8
     ensures { result ≡ slice_index (m.now ++ (128 ∷ [])) j }
 {
-    let n = m.len();
-    if j < n {
-        return m[j];
+    match m.get(j) {
+        Some(byte) => *byte,
+        None if j == m.len() => 128,
+        None => 0,
     }
-    if j == n {
-        return 128;
-    }
-    0
 }
 
 fn ended_word(m: &[u8], j: usize) -> u32
@@ -45,29 +42,40 @@ fn ended_word(m: &[u8], j: usize) -> u32
     )
 }
 
+// The sixteen words that `word` gives for 0 to 15. With `array::from_fn` in its place a hash takes 32 bytes
+// more of stack, over the limit of tests/c/stack_use.c.
+#[inline(always)]
+fn sixteen<F: Fn(usize) -> u32>(word: F) -> [u32; 16]
+    requires { (t : ℕ) → t < 16 → F.pre word t }
+    ensures long { length result ≡ 16 }
+    ensures each { (t : ℕ) → t < 16 → F.post word t (slice_index result t) }
+{
+    [
+        word(0),
+        word(1),
+        word(2),
+        word(3),
+        word(4),
+        word(5),
+        word(6),
+        word(7),
+        word(8),
+        word(9),
+        word(10),
+        word(11),
+        word(12),
+        word(13),
+        word(14),
+        word(15),
+    ]
+}
+
 // Sixteen words of the message.
 fn whole(m: &[u8], at: usize) -> [u32; 16]
     requires { at + 64 ≤ length m.now }
     ensures { result ≡ fips.words_at 16 m.now at }
 {
-    [
-        word(m, at),
-        word(m, at + 4),
-        word(m, at + 8),
-        word(m, at + 12),
-        word(m, at + 16),
-        word(m, at + 20),
-        word(m, at + 24),
-        word(m, at + 28),
-        word(m, at + 32),
-        word(m, at + 36),
-        word(m, at + 40),
-        word(m, at + 44),
-        word(m, at + 48),
-        word(m, at + 52),
-        word(m, at + 56),
-        word(m, at + 60),
-    ]
+    sixteen(|t| word(m, at + 4 * t))
 }
 
 // Word t of those from `at` on: the words before word q lie in the message, word q is `end`, in which the
@@ -97,24 +105,7 @@ fn ended(m: &[u8], at: usize) -> [u32; 16]
     }
     let q = (n - at) / 4;
     let end = ended_word(m, at + 4 * q);
-    [
-        tail_word(m, at, q, end, 0),
-        tail_word(m, at, q, end, 1),
-        tail_word(m, at, q, end, 2),
-        tail_word(m, at, q, end, 3),
-        tail_word(m, at, q, end, 4),
-        tail_word(m, at, q, end, 5),
-        tail_word(m, at, q, end, 6),
-        tail_word(m, at, q, end, 7),
-        tail_word(m, at, q, end, 8),
-        tail_word(m, at, q, end, 9),
-        tail_word(m, at, q, end, 10),
-        tail_word(m, at, q, end, 11),
-        tail_word(m, at, q, end, 12),
-        tail_word(m, at, q, end, 13),
-        tail_word(m, at, q, end, 14),
-        tail_word(m, at, q, end, 15),
-    ]
+    sixteen(|t| tail_word(m, at, q, end, t))
 }
 
 // How many blocks the padded message has.

@@ -6,9 +6,9 @@ ghost use Rattle.sha256.specs.Fips180 as fips;
 
 use crate::message::{join, word};
 
-// The first block: the tag, the first digest, and the second but for its last byte.
-fn first_block(tag: u8, first: &[u8], second: &[u8]) -> [u32; 16]
-    requires { (length first.now ≡ 32) × (length second.now ≡ 32) }
+// The first block: the tag, the first digest, and the second but for its last byte. The words are listed,
+// since two of them lie in two parts.
+fn first_block(tag: u8, first: &[u8; 32], second: &[u8; 32]) -> [u32; 16]
     ensures { result ≡ fips.block (fips.padded (tag ∷ (first.now ++ second.now))) 0 }
 {
     [
@@ -33,8 +33,7 @@ fn first_block(tag: u8, first: &[u8], second: &[u8]) -> [u32; 16]
 
 // The second block, whatever the tag and the first digest are: the last byte, 0x80, zeros, and the
 // length of 520 bits.
-fn second_block(second: &[u8]) -> [u32; 16]
-    requires { length second.now ≡ 32 }
+fn second_block(second: &[u8; 32]) -> [u32; 16]
     ensures { (t : ℕ) (x : List ℕ) → length x ≡ 32 → result ≡ fips.block (fips.padded (t ∷ (x ++ second.now))) 1 }
 {
     let mut w = [0u32; 16];
@@ -44,9 +43,8 @@ fn second_block(second: &[u8]) -> [u32; 16]
 }
 
 // Block i, from 0. Internal: there are two.
-pub fn node_block(tag: u8, first: &[u8], second: &[u8], i: usize) -> [u32; 16]
-    requires first_len { (length first.now ≡ 32) × (length second.now ≡ 32) }
-    requires i_bound { i < 2 }
+pub fn node_block(tag: u8, first: &[u8; 32], second: &[u8; 32], i: usize) -> [u32; 16]
+    requires { i < 2 }
     ensures { result ≡ fips.block (fips.padded (tag ∷ (first.now ++ second.now))) i }
 {
     if i == 1 {

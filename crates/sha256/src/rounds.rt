@@ -1,15 +1,28 @@
 // FIPS 180-4, section 6.2.2, steps 2 to 4: one block into the hash value.
 //
-// The 64 rounds stand one below the other, each with its number and its constant, so that the
-// compiler keeps the words in registers and no table is read (docs/DECISIONS.md).
-ghost use Rattle.std.specs.Prelude.{◌≡◌, ◌+◌, ◌<◌, ◌≤◌, length};
+// The rounds stand one below the other, and each run of sixteen is inlined with its first number: so the
+// compiler has each constant and each word's place as a number, and no table is read (docs/DECISIONS.md).
+// A loop over the 64 rounds takes half as much time again.
+ghost use Rattle.std.specs.Prelude.{◌≡◌, ◌+◌, ◌<◌, ◌≤◌};
 ghost use Rattle.sha256.specs.Fips180 as fips;
 ghost use Rattle.sha256.specs.Rounds.{Ran};
 ghost use Rattle.sha256.specs.Window.{kept};
 
 use crate::State;
-use crate::schedule::roll;
+use crate::schedule::next_word;
 use crate::word::{add, big_sigma0, big_sigma1, ch, maj};
+
+// The constants K_0 to K_63.
+const K: [u32; 64] = [
+    0x428a2f98, 0x71374491, 0xb5c0fbcf, 0xe9b5dba5, 0x3956c25b, 0x59f111f1, 0x923f82a4, 0xab1c5ed5,
+    0xd807aa98, 0x12835b01, 0x243185be, 0x550c7dc3, 0x72be5d74, 0x80deb1fe, 0x9bdc06a7, 0xc19bf174,
+    0xe49b69c1, 0xefbe4786, 0x0fc19dc6, 0x240ca1cc, 0x2de92c6f, 0x4a7484aa, 0x5cb0a9dc, 0x76f988da,
+    0x983e5152, 0xa831c66d, 0xb00327c8, 0xbf597fc7, 0xc6e00bf3, 0xd5a79147, 0x06ca6351, 0x14292967,
+    0x27b70a85, 0x2e1b2138, 0x4d2c6dfc, 0x53380d13, 0x650a7354, 0x766a0abb, 0x81c2c92e, 0x92722c85,
+    0xa2bfe8a1, 0xa81a664b, 0xc24b8b70, 0xc76c51a3, 0xd192e819, 0xd6990624, 0xf40e3585, 0x106aa070,
+    0x19a4c116, 0x1e376c08, 0x2748774c, 0x34b0bcb5, 0x391c0cb3, 0x4ed8aa4a, 0x5b9cca4f, 0x682e6ff3,
+    0x748f82ee, 0x78a5636f, 0x84c87814, 0x8cc70208, 0x90befffa, 0xa4506ceb, 0xbef9a3f7, 0xc67178f2,
+];
 
 fn temp1(s: State, k: u32, w: u32) -> u32
     ensures { result ≡ fips.T1 s k w }
@@ -42,122 +55,54 @@ fn one_round(s: State, k: u32, w: u32) -> State
     }
 }
 
-// Round t, from 16 on, with the constant k: makes word t first.
-fn step(s: State, w: &mut [u32; 16], t: usize, k: u32) -> State
-    requires { (16 ≤ t) × (t < 64) }
-    ensures { k ≡ fips.K t → Ran t (t + 1) s w.old result w.new }
+// Round t, with the constant K_t and the word W_t.
+#[inline(always)]
+fn step(s: State, w: &mut [u32; 16], t: usize) -> State
+    requires { t < 64 }
+    ensures { Ran t (t + 1) s w.old result w.new }
 {
-    one_round(s, k, roll(w, t))
+    one_round(s, K[t], next_word(w, t))
 }
 
-fn rounds_0_to_15(s: State, w: &[u32; 16]) -> State
-    ensures { result ≡ fips.rounds w.now s 16 }
+// The rounds `from` to `from` + 15.
+#[inline(always)]
+fn sixteen_rounds(s: State, w: &mut [u32; 16], from: usize) -> State
+    requires { from ≤ 48 }
+    ensures { Ran from (from + 16) s w.old result w.new }
 {
     let mut v = s;
-    v = one_round(v, 0x428a2f98, w[0]);
-    v = one_round(v, 0x71374491, w[1]);
-    v = one_round(v, 0xb5c0fbcf, w[2]);
-    v = one_round(v, 0xe9b5dba5, w[3]);
-    v = one_round(v, 0x3956c25b, w[4]);
-    v = one_round(v, 0x59f111f1, w[5]);
-    v = one_round(v, 0x923f82a4, w[6]);
-    v = one_round(v, 0xab1c5ed5, w[7]);
-    v = one_round(v, 0xd807aa98, w[8]);
-    v = one_round(v, 0x12835b01, w[9]);
-    v = one_round(v, 0x243185be, w[10]);
-    v = one_round(v, 0x550c7dc3, w[11]);
-    v = one_round(v, 0x72be5d74, w[12]);
-    v = one_round(v, 0x80deb1fe, w[13]);
-    v = one_round(v, 0x9bdc06a7, w[14]);
-    v = one_round(v, 0xc19bf174, w[15]);
-    v
-}
-
-fn rounds_16_to_31(s: State, w: &mut [u32; 16]) -> State
-    ensures { Ran 16 32 s w.old result w.new }
-{
-    let mut v = s;
-    v = step(v, w, 16, 0xe49b69c1);
-    v = step(v, w, 17, 0xefbe4786);
-    v = step(v, w, 18, 0x0fc19dc6);
-    v = step(v, w, 19, 0x240ca1cc);
-    v = step(v, w, 20, 0x2de92c6f);
-    v = step(v, w, 21, 0x4a7484aa);
-    v = step(v, w, 22, 0x5cb0a9dc);
-    v = step(v, w, 23, 0x76f988da);
-    v = step(v, w, 24, 0x983e5152);
-    v = step(v, w, 25, 0xa831c66d);
-    v = step(v, w, 26, 0xb00327c8);
-    v = step(v, w, 27, 0xbf597fc7);
-    v = step(v, w, 28, 0xc6e00bf3);
-    v = step(v, w, 29, 0xd5a79147);
-    v = step(v, w, 30, 0x06ca6351);
-    v = step(v, w, 31, 0x14292967);
-    v
-}
-
-fn rounds_32_to_47(s: State, w: &mut [u32; 16]) -> State
-    ensures { Ran 32 48 s w.old result w.new }
-{
-    let mut v = s;
-    v = step(v, w, 32, 0x27b70a85);
-    v = step(v, w, 33, 0x2e1b2138);
-    v = step(v, w, 34, 0x4d2c6dfc);
-    v = step(v, w, 35, 0x53380d13);
-    v = step(v, w, 36, 0x650a7354);
-    v = step(v, w, 37, 0x766a0abb);
-    v = step(v, w, 38, 0x81c2c92e);
-    v = step(v, w, 39, 0x92722c85);
-    v = step(v, w, 40, 0xa2bfe8a1);
-    v = step(v, w, 41, 0xa81a664b);
-    v = step(v, w, 42, 0xc24b8b70);
-    v = step(v, w, 43, 0xc76c51a3);
-    v = step(v, w, 44, 0xd192e819);
-    v = step(v, w, 45, 0xd6990624);
-    v = step(v, w, 46, 0xf40e3585);
-    v = step(v, w, 47, 0x106aa070);
-    v
-}
-
-fn rounds_48_to_63(s: State, w: &mut [u32; 16]) -> State
-    ensures { Ran 48 64 s w.old result w.new }
-{
-    let mut v = s;
-    v = step(v, w, 48, 0x19a4c116);
-    v = step(v, w, 49, 0x1e376c08);
-    v = step(v, w, 50, 0x2748774c);
-    v = step(v, w, 51, 0x34b0bcb5);
-    v = step(v, w, 52, 0x391c0cb3);
-    v = step(v, w, 53, 0x4ed8aa4a);
-    v = step(v, w, 54, 0x5b9cca4f);
-    v = step(v, w, 55, 0x682e6ff3);
-    v = step(v, w, 56, 0x748f82ee);
-    v = step(v, w, 57, 0x78a5636f);
-    v = step(v, w, 58, 0x84c87814);
-    v = step(v, w, 59, 0x8cc70208);
-    v = step(v, w, 60, 0x90befffa);
-    v = step(v, w, 61, 0xa4506ceb);
-    v = step(v, w, 62, 0xbef9a3f7);
-    v = step(v, w, 63, 0xc67178f2);
+    v = step(v, w, from);
+    v = step(v, w, from + 1);
+    v = step(v, w, from + 2);
+    v = step(v, w, from + 3);
+    v = step(v, w, from + 4);
+    v = step(v, w, from + 5);
+    v = step(v, w, from + 6);
+    v = step(v, w, from + 7);
+    v = step(v, w, from + 8);
+    v = step(v, w, from + 9);
+    v = step(v, w, from + 10);
+    v = step(v, w, from + 11);
+    v = step(v, w, from + 12);
+    v = step(v, w, from + 13);
+    v = step(v, w, from + 14);
+    v = step(v, w, from + 15);
     v
 }
 
 // The working variables after the 64 rounds on the block in w, which is rolled forward where it stands.
-// That w has sixteen words is its type, and the proof is told so in words.
 fn all_rounds(s: State, w: &mut [u32; 16]) -> State
-    requires { length w.old ≡ 16 }
     ensures { (result ≡ fips.rounds w.old s 64) × (w.new ≡ kept w.old 63) }
 {
-    let v = rounds_0_to_15(s, w);
-    let v = rounds_16_to_31(v, w);
-    let v = rounds_32_to_47(v, w);
-    rounds_48_to_63(v, w)
+    let v = sixteen_rounds(s, w, 0);
+    let v = sixteen_rounds(v, w, 16);
+    let v = sixteen_rounds(v, w, 32);
+    sixteen_rounds(v, w, 48)
 }
 
 // The next hash value, by the block in w. No other copy of the block is kept: in the end w has the words
 // 48 to 63.
 pub fn compress(s: State, w: &mut [u32; 16]) -> State
-    requires { length w.old ≡ 16 }
     ensures value { result ≡ fips.compressed s w.old }
     ensures w_after { w.new ≡ kept w.old 63 }
 {

@@ -1,7 +1,7 @@
 // FIPS 180-4, section 6.2.2, step 1: the message schedule, of which sixteen words are kept.
-ghost use Rattle.std.specs.Prelude.{◌≡◌, ◌<◌, ◌≤◌};
+ghost use Rattle.std.specs.Prelude.{◌≡◌, ℕ, ◌-◌, ◌<◌, ◌≤◌, List, length};
 ghost use Rattle.sha256.specs.Fips180 as fips;
-ghost use Rattle.sha256.specs.Window.{made, rolled};
+ghost use Rattle.sha256.specs.Window.{kept, made, rolled};
 
 use crate::word::{add, sigma0, sigma1};
 
@@ -13,7 +13,7 @@ fn extend(w2: u32, w7: u32, w15: u32, w16: u32) -> u32
 
 // Makes word t and puts it where word t - 16 stood: then exactly the words t - 15 to t are kept (the
 // claim WordsKept).
-pub fn roll(w: &mut [u32; 16], t: usize) -> u32
+fn roll(w: &mut [u32; 16], t: usize) -> u32
     requires { (16 ≤ t) × (t < 64) }
     ensures value { result ≡ made w.old t }
     ensures w_after { w.new ≡ rolled w.old t }
@@ -26,4 +26,17 @@ pub fn roll(w: &mut [u32; 16], t: usize) -> u32
     );
     w[t % 16] = next;
     next
+}
+
+// Word t, which the block has up to word 15, and which is made from there on; and the words that are
+// kept with it.
+#[inline(always)]
+pub fn next_word(w: &mut [u32; 16], t: usize) -> u32
+    requires { t < 64 }
+    ensures { (M : List ℕ) → length M ≡ 16 → w.old ≡ kept M (t - 1) → (result ≡ fips.W M t) × (w.new ≡ kept M t) }
+{
+    if t < 16 {
+        return w[t];
+    }
+    roll(w, t)
 }

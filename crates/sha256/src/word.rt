@@ -2,21 +2,14 @@
 //
 // The functions take fewer operations than the standard's formulas, which stand above each and in
 // the contracts: a rotation distributes over ⊕, two rotations add up, and one ∧ selects.
-ghost use Rattle.std.specs.Prelude.{◌≡◌, ◌<◌};
+ghost use Rattle.std.specs.Prelude.{◌≡◌};
 ghost use Rattle.sha256.specs.Fips180 as fips;
 
 // x + y, modulo 2^32.
 pub fn add(x: u32, y: u32) -> u32
     ensures { result ≡ fips.add32 x y }
 {
-    std::num::wrapping_add_u32(x, y)
-}
-
-fn rotr(x: u32, n: u32) -> u32
-    requires { (0 < n) × (n < 32) }
-    ensures { result ≡ fips.rotr n x }
-{
-    (x >> n) | (x << (32 - n))
+    x.wrapping_add(y)
 }
 
 // (x ∧ y) ⊕ (¬x ∧ z)
@@ -37,26 +30,26 @@ pub fn maj(x: u32, y: u32, z: u32) -> u32
 pub fn big_sigma0(x: u32) -> u32
     ensures { result ≡ fips.Σ0 x }
 {
-    rotr(rotr(rotr(x, 9) ^ x, 11) ^ x, 2)
+    ((x.rotate_right(9) ^ x).rotate_right(11) ^ x).rotate_right(2)
 }
 
 // ROTR^6(x) ⊕ ROTR^11(x) ⊕ ROTR^25(x)
 pub fn big_sigma1(x: u32) -> u32
     ensures { result ≡ fips.Σ1 x }
 {
-    rotr(rotr(rotr(x, 14) ^ x, 5) ^ x, 6)
+    ((x.rotate_right(14) ^ x).rotate_right(5) ^ x).rotate_right(6)
 }
 
 // ROTR^7(x) ⊕ ROTR^18(x) ⊕ SHR^3(x)
 pub fn sigma0(x: u32) -> u32
     ensures { result ≡ fips.σ0 x }
 {
-    rotr(rotr(x, 11) ^ x, 7) ^ (x >> 3)
+    (x.rotate_right(11) ^ x).rotate_right(7) ^ (x >> 3)
 }
 
 // ROTR^17(x) ⊕ ROTR^19(x) ⊕ SHR^10(x)
 pub fn sigma1(x: u32) -> u32
     ensures { result ≡ fips.σ1 x }
 {
-    rotr(rotr(x, 2) ^ x, 17) ^ (x >> 10)
+    (x.rotate_right(2) ^ x).rotate_right(17) ^ (x >> 10)
 }

@@ -6,19 +6,14 @@ use mathlib.Core.Path.{◌≡◌}
 use Prim.Native.Nat.{ℕ, ◌≤◌, ◌<◌}
 use native.Mathlib.Omega.{arith}
 use borrow.Author.Tests.{le-leb, leb-true, lt-leb}
-use lib.Dec.{leb}
 use Rattle.slate.specs.Claims as claims
 use Rattle.slate.specs.Index.{is_index}
 use Rattle.slate.proofs.Cases.{by_order, true_false}
 
 module _ (i n : ℕ) where
-  pub index_none : i ≡ 0 → is_index i n ≡ false
+  index_none : i ≡ 0 → is_index i n ≡ false
   unfolding is_index
   index_none z = rw (lt-leb 1 i (omega arith))
-
-  pub index_some : (i ≡ 0 → ⊥) → is_index i n ≡ leb i n
-  unfolding is_index
-  index_some s = rw (le-leb 1 i (omega arith))
 
   pub to_index : 1 ≤ i → i ≤ n → is_index i n ≡ true
   unfolding is_index

@@ -8,19 +8,18 @@ ghost use Rattle.slate.specs.Path.{fold_from};
 ghost use Rattle.slate.specs.Rules.{rule_of};
 
 use crate::digits::{MAX_HEIGHT, base, digit};
-use crate::order::smaller;
-use crate::rule::{Rule, node_tag};
+use crate::rule::Rule;
 use sha256::tagged::hash_tagged;
 
 // The position at which the way from position `last` down to the leaf at position `target` stands at
 // height h: the end of the block of 2^h positions around the leaf or, where that block is cut short,
 // the last position.
-#[tactic(auto, unfolding(crate::specs::Digits::max_height))]
+#[tactic(auto, using(crate::proofs::CodeForms::shifted_one), unfolding(crate::specs::Digits::max_height))]
 fn way_position(last: u32, target: u32, h: u32) -> u32
     requires { (target ≤ last) × (last < 2 ^ digits.max_height) × (h ≤ digits.max_height) }
     ensures { result ≡ min last (digits.base target h + (2 ^ h - 1)) }
 {
-    smaller(last, base(target, h) + ((1 << h) - 1))
+    last.min(base(target, h) + ((1 << h) - 1))
 }
 
 // The digest of the node of height p + 1 on that way from that of its child on the way, and the
@@ -31,11 +30,12 @@ fn over(rule: Rule, p: u32, target: u32, child: [u8; 32], sibling: &[u8]) -> [u8
     requires sibling_len { length sibling.now ≡ 32 }
     ensures { result ≡ digits.if_set (digits.digit target p) (tagged (rule_of rule (p + 1)) sibling.now child) (tagged (rule_of rule (p + 1)) child sibling.now) }
 {
-    let tag = node_tag(rule, p + 1);
+    let tag = rule.node_tag(p + 1);
     if digit(target, p) == 0 {
-        return hash_tagged(tag, &child, sibling);
+        hash_tagged(tag, &child, sibling)
+    } else {
+        hash_tagged(tag, sibling, &child)
     }
-    hash_tagged(tag, sibling, &child)
 }
 
 // The fold of the leaf's digest as that of value i of n. Internal: 1 ≤ i ≤ n ≤ 4,096, and the proof
@@ -49,16 +49,17 @@ pub fn fold(rule: Rule, n: u32, i: u32, leaf: [u8; 32], proof: &[u8]) -> [u8; 32
     let last = n - 1;
     let target = i - 1;
     let mut own = leaf;
-    let mut at = 0;
+    let mut rest = proof;
     for p in 0..MAX_HEIGHT {
         let x = way_position(last, target, p + 1);
         // No node of height p + 1 is on the way.
         if digit(x, p) == 0 {
             continue;
         }
-        let node = over(rule, p, target, own, &proof[at..at + 32]);
+        let (sibling, above) = rest.split_at(32);
+        let node = over(rule, p, target, own, sibling);
         own = node;
-        at += 32;
+        rest = above;
     }
     own
 }

@@ -7,9 +7,11 @@ use sha256::tagged::hash_tagged;
 
 // A value item, which is its kind and its body, is hashed behind 0x00. Internal: it has 1 to 64
 // bytes.
+#[tactic(auto, unfolding(sha256::specs::Answer::tagged))]
 pub fn leaf_digest(item: &[u8]) -> [u8; 32]
     requires { (1 ≤ length item.now) × (length item.now ≤ 64) }
     ensures { result ≡ sha256 (leaf_input slate item.now) }
 {
-    hash_tagged(0, &item[..1], &item[1..])
+    let (kind, body) = item.split_at(1);
+    hash_tagged(0, kind, body)
 }

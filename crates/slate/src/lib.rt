@@ -13,5 +13,4 @@ pub mod index;
 pub mod leaf;
 pub mod length;
 pub mod moves;
-pub mod order;
 pub mod rule;

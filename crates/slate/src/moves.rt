@@ -5,6 +5,7 @@ ghost use Rattle.slate.specs.Moves as moves;
 use crate::digits::{MAX_HEIGHT, digit, ones_below};
 
 // The highest of the digits below h in which n and t differ.
+#[tactic(auto, unfolding(crate::specs::Moves::highest_difference))]
 fn highest_difference(n: u32, t: u32, h: u32) -> u32
     requires { h ≤ 32 }
     ensures { result ≡ moves.highest_difference n t h }
@@ -14,39 +15,43 @@ fn highest_difference(n: u32, t: u32, h: u32) -> u32
     }
     let p = h - 1;
     if digit(n, p) == digit(t, p) {
-        return highest_difference(n, t, p);
+        highest_difference(n, t, p)
+    } else {
+        p
     }
-    p
 }
 
 // j, the highest bit where n and i - 1 differ. It is below 31, so that j + 1 is a distance of a shift.
+#[tactic(auto, using(crate::proofs::HighestBit::split_le), unfolding(crate::specs::Moves::split_bit, crate::specs::Digits::max_height))]
 fn split_bit(n: u32, i: u32) -> u32
     requires { 1 ≤ i }
     ensures value { result ≡ moves.split_bit n i }
     ensures upper_bound { result < 31 }
 {
-    let position = i - 1;
-    highest_difference(n, position, MAX_HEIGHT + 1)
+    highest_difference(n, i - 1, MAX_HEIGHT + 1)
 }
 
 // 1 where j is not the number of trailing zeros of n, else 0.
+#[tactic(auto, unfolding(crate::specs::Moves::turn))]
 fn turn(n: u32, j: u32) -> u32
     ensures value { result ≡ moves.turn n j }
     ensures upper_bound { result ≤ 1 }
 {
-    (j != u32::trailing_zeros(n)) as u32
+    u32::from(j != n.trailing_zeros())
 }
 
 // All moves. Internal: i is at least 1.
+#[tactic(auto, unfolding(crate::specs::Moves::hops))]
 pub fn hops(n: u32, i: u32) -> u32
     requires { 1 ≤ i }
     ensures { result ≡ moves.hops n i }
 {
     let j = split_bit(n, i);
-    u32::count_ones(n >> (j + 1)) + turn(n, j) + j
+    (n >> (j + 1)).count_ones() + turn(n, j) + j
 }
 
 // Those that go left. Internal: i is at least 1.
+#[tactic(auto, using(crate::proofs::Bits::ones_below_mod), unfolding(crate::specs::Moves::lefts))]
 pub fn lefts(n: u32, i: u32) -> u32
     requires { 1 ≤ i }
     ensures { result ≡ moves.lefts n i }

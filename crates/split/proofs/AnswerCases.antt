@@ -4,12 +4,13 @@ use mathlib.Core.Path.{◌≡◌, refl, sym, ap, ◌∙◌}
 use Prim.Native.Nat.{ℕ, zero, suc}
 use borrow.Author.Tests.{ne_eqb}
 use lib.Dec.{eqb}
+use Rattle.std.specs.Prelude.{Err, Ok, Result}
 use Rattle.sha256.specs.Pick.{pick}
 use Rattle.entry.specs.Refusal.{cause_number}
 use Rattle.split.specs.Answer.{Split, answer_of, difference_place, side_number, verdict_number, verdict_of}
 use Rattle.split.specs.Claims as claims
 use Rattle.split.specs.declared.SearchAnswer.{SearchAnswer}
-use Rattle.split.specs.declared.SearchAnswer.TheVariants as answer
+use Rattle.split.specs.declared.SearchRefusal.{SearchRefusal}
 use Rattle.split.specs.declared.Side.{Side}
 use Rattle.split.specs.declared.Side.TheVariants as side
 use Rattle.split.specs.declared.Verdict.{Verdict}
@@ -46,16 +47,16 @@ told_verdict_lem verdict.FirstShorter = refl
 told_verdict_lem verdict.SecondShorter = refl
 told_verdict_lem (verdict.DifferAt i) = refl
 
-told : Split → SearchAnswer
+told : Split → Result SearchAnswer SearchRefusal
 told s =
     pick (eqb s.number 0)
-    (answer.Answered s.common (told_verdict s.verdict s.place) s.first_reads s.second_reads)
-    (answer.Refused (told_side s.side) (cause_of s.number))
+    (claims.answer s.common (told_verdict s.verdict s.place) s.first_reads s.second_reads)
+    (claims.no_answer (told_side s.side) (cause_of s.number))
 
-told_case : (r : SearchAnswer) → told (answer_of r) ≡ r
+told_case : (r : Result SearchAnswer SearchRefusal) → told (answer_of r) ≡ r
 unfolding told
-told_case (answer.Answered n v r s) = rw (told_verdict_lem v)
-told_case (answer.Refused s k) = rw (ne_eqb (cause_number k) 0 (cause_some k), told_side_lem s, cause_told k)
+told_case (Ok a) = rw (told_verdict_lem a.verdict)
+told_case (Err r) = rw (ne_eqb (cause_number r.cause) 0 (cause_some r.cause), told_side_lem r.side, cause_told r.cause)
 
 pub one_answer : claims.OneAnswer
 one_answer r s e = sym (told_case r) ∙ ap told e ∙ told_case s

@@ -2,24 +2,26 @@
 -- Assumes nothing.
 use mathlib.Core.List.{List, []}
 use mathlib.Core.Logic.{inl, inr}
-use mathlib.Core.Path.{◌≡◌, refl, ◌∙◌}
+use mathlib.Core.Path.{◌≡◌, refl, sym, ap, ◌∙◌}
 use Prim.Native.Nat.{ℕ, ◌-◌, ◌≤◌, ◌<◌}
 use native.Mathlib.Omega.{arith}
 use borrow.Author.Tests.{le-ltb, lt-ltb}
-use lib.Dec.{ltb}
+use lib.Dec.{eqb, ltb}
 use lib.ListN.{length, drop, take}
+use Rattle.std.specs.Prelude.{None, Ok, Option, Result, Some}
+use Rattle.sha256.specs.Pick.{pick}
 use Rattle.slate.specs.Bytes.{part}
 use Rattle.slate.specs.Comparison as comparison
 use Rattle.split.specs.Answer.{found, split_of, verdict_of}
 use Rattle.split.specs.Claims as claims
 use Rattle.split.specs.Located.{located_of, to_verdict}
-use Rattle.split.specs.Repair.{piece_of, place_of, rest}
+use Rattle.split.specs.Repair.{Piece, numbered, piece_of, place_of, rest}
 use Rattle.split.specs.Search.{Search, answered, refused, searched}
+use Rattle.split.specs.declared.Donor.{Donor}
+use Rattle.split.specs.declared.Donor.TheVariants as log
 use Rattle.split.specs.declared.Located.{Located}
-use Rattle.split.specs.declared.Located.TheVariants as located
-use Rattle.split.specs.declared.Piece.{Piece}
-use Rattle.split.specs.declared.Tally.{Tally}
-use Rattle.split.specs.declared.Verdict.{Verdict}
+use Rattle.split.specs.declared.Piece as code
+use Rattle.split.specs.declared.SearchRefusal.{SearchRefusal}
 use Rattle.slate.proofs.Cases.{by_bool}
 use Rattle.slate.proofs.Lists.{rest_slice}
 use Rattle.split.proofs.LocateForms.{by_found, ends_inside}
@@ -31,21 +33,19 @@ verdict_back comparison.second_shorter = refl
 verdict_back (comparison.differ_at i) = refl
 
 -- w is what the search answers: it has found this
-module _ (b c : List ℕ) (w : Located) (ew : w ≡ located_of (searched b c)) where
-  pub found_split : (n : ℕ) (v : Verdict) (a d : Tally) → w ≡ located.Found n v a d
-      → found n (verdict_of v) a.reads d.reads ≡ split_of (searched b c)
+module _ (b c : List ℕ) (w : Result Located SearchRefusal) (ew : w ≡ located_of (searched b c)) where
+  pub found_split : (x : Located) → w ≡ Ok x
+      → found x.common (verdict_of x.verdict) x.first.reads x.second.reads ≡ split_of (searched b c)
   found_split = by_found b c w ew _ (λ f r s run. rw (run, verdict_back f.verdict))
 
   -- the entries in common end inside each log
-  pub found_ends : (n : ℕ) (v : Verdict) (a d : Tally) → w ≡ located.Found n v a d → (a.at ≤ length b) × (d.at ≤ length c)
+  pub found_ends : (x : Located) → w ≡ Ok x → (x.first.at ≤ length b) × (x.second.at ≤ length c)
   found_ends = by_found b c w ew _ (λ f r s run. ends_inside b c f r s run)
 
-  pub in_second : (n : ℕ) (v : Verdict) (a d : Tally) → w ≡ located.Found n v a d → a.count < d.count
-      → rest 2 c d.at ≡ place_of b c (searched b c)
+  pub in_second : (x : Located) → w ≡ Ok x → x.first.count < x.second.count → rest 2 c x.second.at ≡ place_of b c (searched b c)
   in_second = by_found b c w ew _ (λ f r s run lt. rw (run, lt-ltb r.count s.count lt))
 
-  pub in_first : (n : ℕ) (v : Verdict) (a d : Tally) → w ≡ located.Found n v a d → d.count ≤ a.count
-      → rest 1 b a.at ≡ place_of b c (searched b c)
+  pub in_first : (x : Located) → w ≡ Ok x → x.second.count ≤ x.first.count → rest 1 b x.first.at ≡ place_of b c (searched b c)
   in_first = by_found b c w ew _ (λ f r s run le. rw (run, le-ltb r.count s.count le))
 
 -- ---- the piece, from where it lies
@@ -78,6 +78,20 @@ module _ (b c : List ℕ) (p : Piece) (e : p ≡ place_of b c (searched b c)) wh
   pub in_neither : (p.donor ≡ 2 → ⊥) → (p.donor ≡ 1 → ⊥) → [] ≡ piece_of b c (searched b c)
   in_neither f g = by_place b c p e (λ d le n q. absurd (f d)) (λ d le n q. absurd (g d)) (λ d o l q. q)
 
+-- the code's answer, from the donor that it names
+module _ (b c : List ℕ) (r : Option code.Piece) (e : numbered r ≡ place_of b c (searched b c)) where
+  module _ (p : code.Piece) (is : r ≡ Some p) where
+    pub second_part : p.donor ≡ log.Second
+        → (p.offset ≤ length c) × (take (length c - p.offset) (drop p.offset c) ≡ piece_of b c (searched b c))
+    second_part h = of_second b c (numbered (Some p)) (rw is at e) (rw h refl)
+
+    pub first_part : p.donor ≡ log.First
+        → (p.offset ≤ length b) × (take (length b - p.offset) (drop p.offset b) ≡ piece_of b c (searched b c))
+    first_part h = of_first b c (numbered (Some p)) (rw is at e) (rw h refl)
+
+  pub no_part : r ≡ None → [] ≡ piece_of b c (searched b c)
+  no_part is = in_neither b c (numbered None) (rw is at e) (λ d. omega (arith, d)) (λ d. omega (arith, d))
+
 pub piece_placed : claims.PiecePlaced
 unfolding part
 piece_placed b c p e =
@@ -85,3 +99,21 @@ piece_placed b c p e =
     (λ d le n q. inr (inl (d, omega arith, rw n (rest_slice c p.offset ∙ q))))
     (λ d le n q. inl (d, omega arith, rw n (rest_slice b p.offset ∙ q)))
     (λ d o l q. inr (inr (d, o, l, q)))
+
+-- ---- the piece, from its numbers
+
+told_piece : Piece → Option code.Piece
+told_piece p =
+    pick (eqb p.donor 0) None (Some (record { donor = pick (eqb p.donor 1) log.First log.Second; offset = p.offset; length = p.length }))
+
+told_piece_lem : (p : Option code.Piece) → told_piece (numbered p) ≡ p
+unfolding told_piece
+told_piece_lem None = refl
+told_piece_lem (Some p) = by_donor p.donor refl
+  where
+    by_donor : (d : Donor) → d ≡ p.donor → told_piece (numbered (Some p)) ≡ Some p
+    by_donor log.First e = rw (← e) refl
+    by_donor log.Second e = rw (← e) refl
+
+pub one_piece : claims.OnePiece
+one_piece p q e = sym (told_piece_lem p) ∙ ap told_piece e ∙ told_piece_lem q

@@ -12,7 +12,7 @@ use Rattle.slate.specs.Digits.{max_height}
 use Rattle.entry.specs.Read.{digest_at, entry_len_at}
 use Rattle.entry.specs.Shape.{opened_log}
 use Rattle.entry.specs.Walk.{Kept, Place, arrived, descend}
-use Rattle.entry.specs.declared.Opened.TheVariants as opened
+use Rattle.entry.specs.Opening.{opening_at}
 use Rattle.split.specs.Claims as claims
 use Rattle.split.specs.Reads.{lefts_below, reads_formula}
 use Rattle.split.specs.Search.{Trace, answered, opening, searched}
@@ -36,7 +36,7 @@ pub reads_counted : claims.ReadsCounted
 reads_counted b c f a d h =
     by_answered b c
     (λ f a d.
-    (o : ℕ) × (q : ℕ) × (opened_log b ≡ opened.Log o a.count) × (opened_log c ≡ opened.Log q d.count)
+    (o : ℕ) × (q : ℕ) × (opened_log b ≡ opening_at o a.count) × (opened_log c ≡ opening_at q d.count)
     × (length a.reads ≡ reads_formula a.count (min a.count d.count) f.verdict)
     × (length d.reads ≡ reads_formula d.count (min a.count d.count) f.verdict))
     (λ o m q k fo so n.

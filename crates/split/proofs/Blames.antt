@@ -6,6 +6,7 @@ use mathlib.Core.Path.{◌≡◌, sym, ap, ◌∙◌}
 use Prim.Native.Nat.{ℕ, ◌-◌, ◌≤◌, ◌<◌}
 use native.Mathlib.Omega.{arith}
 use lib.ListN.{length}
+use Rattle.std.specs.Prelude.{Err}
 use Rattle.sha256.specs.Reasons.{Decided, Reason}
 use Rattle.slate.specs.Digits.{base, digit, max_height}
 use Rattle.slate.specs.Length.{offset}
@@ -13,7 +14,6 @@ use Rattle.entry.specs.Log.{Values, log}
 use Rattle.entry.specs.Reasons.{Unopened}
 use Rattle.entry.specs.Walk.{Place, arrived, descend, left_step}
 use Rattle.entry.specs.declared.Cause.{Cause}
-use Rattle.entry.specs.declared.Step.TheVariants as step
 use Rattle.split.specs.Answer.{Split, split_of}
 use Rattle.split.specs.Claims as claims
 use Rattle.split.specs.Search.{searched}
@@ -67,7 +67,7 @@ module _ (vs : List (List ℕ)) (ok : Values vs) where
 
     -- and on the way down from there no left step fails
     steps : (l y p e : ℕ) (qs : List Place) (k : Cause) → claims.Reaches (log vs) n l → y ≤ n - 1 → p < max_height → digit y p ≡ 1
-        → descend (log vs) l (n - 1) max_height y ≡ arrived e qs → left_step (log vs) e y p ≡ step.Refused k → ⊥
+        → descend (log vs) l (n - 1) max_height y ≡ arrived e qs → left_step (log vs) e y p ≡ Err k → ⊥
     steps l y p e qs k h le lt d r f =
         let w = holds_self vs ok in
         let whole : base (n - 1) max_height ≡ 0 = whole_base (n - 1) max_height (omega (arith, ok.few)) in

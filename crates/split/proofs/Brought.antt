@@ -11,7 +11,7 @@ use Rattle.slate.specs.Moves.{lefts}
 use Rattle.entry.specs.Read.{digest_at, entry_len_at}
 use Rattle.entry.specs.Shape.{Inside, opened_log}
 use Rattle.entry.specs.Walk.{Kept, Place, SameEntry, arrived, descend}
-use Rattle.entry.specs.declared.Opened.TheVariants as opened
+use Rattle.entry.specs.Opening.{opening_at}
 use Rattle.split.specs.Search.{opening}
 use Rattle.slate.proofs.Bits.{whole_base}
 use Rattle.slate.proofs.Descent.{to_leaf}
@@ -54,8 +54,8 @@ descend_lefts b o x t l qs high few h =
 -- ---- opening
 
 -- any log of the same length with the same last entry opens there too
-pub opening_local : (b c : List ℕ) (o n : ℕ) → length b ≡ length c → opened_log b ≡ opened.Log o n → Kept b c (opening o n).reads
-    → opened_log c ≡ opened.Log o n
+pub opening_local : (b c : List ℕ) (o n : ℕ) → length b ≡ length c → opened_log b ≡ opening_at o n → Kept b c (opening o n).reads
+    → opened_log c ≡ opening_at o n
 opening_local b c o zero len h k =
     let e : b ≡ [] = (opened_empty b o h).0 in
     let f : c ≡ [] = sym (take_all 0 c (omega (arith, len, ap length e))) in
@@ -66,7 +66,7 @@ opening_local b c o (suc x) len h k = opened_local b c o x len h k.0
 
 -- of x + 1 entries the last begins at o, the one at position t lies at l, and qs are read on the way
 pub record Brought (b : List ℕ) (o x t l : ℕ) (qs : List Place) : Type 0 where
-  pub opens : opened_log b ≡ opened.Log o (suc x)
+  pub opens : opened_log b ≡ opening_at o (suc x)
   pub high : t ≤ x
   pub run : descend b o x max_height t ≡ arrived l qs
 

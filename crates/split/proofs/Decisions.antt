@@ -5,6 +5,7 @@ use mathlib.Core.Logic.{◌⊎◌, inl, inr, ⊎_elim}
 use mathlib.Core.Path.{◌≡◌, refl, sym, ap, ◌∙◌}
 use Prim.Native.Nat.{ℕ, zero, suc, ◌-◌, min}
 use native.Mathlib.Omega.{arith}
+use Rattle.std.specs.Prelude.{Err, None, Option, Some}
 use Rattle.sha256.specs.Reasons.{Decided, Reason}
 use Rattle.slate.specs.Comparison.{Compared, Verdict, differ_at, equal, first_shorter, second_shorter}
 use Rattle.slate.specs.Digits.{max_height}
@@ -15,8 +16,7 @@ use Rattle.entry.specs.Walk.{Descent, Place, arrived, descend, left_step, stoppe
 use Rattle.entry.specs.declared.Cause.{Cause}
 use Rattle.entry.specs.declared.Cause.TheVariants as cause
 use Rattle.entry.specs.declared.Opened.{Opened}
-use Rattle.entry.specs.declared.Opened.TheVariants as opened
-use Rattle.entry.specs.declared.Step.TheVariants as step
+use Rattle.entry.specs.Opening.{opening_at}
 use Rattle.entry.specs.Refusal.{cause_number}
 use Rattle.split.specs.Answer.{Split, difference_place, side_number, split_of, verdict_number}
 use Rattle.split.specs.Below.{Below, blocked, down, leaf}
@@ -26,6 +26,7 @@ use Rattle.split.specs.declared.Side.{Side}
 use Rattle.split.specs.declared.Side.TheVariants as side
 use Rattle.slate.proofs.Cases.{by_equal}
 use Rattle.slate.proofs.Lists.{same_ne}
+use Rattle.entry.proofs.Cases.{opening_same}
 use Rattle.entry.proofs.Descents.{by_left_step, descend_causes}
 use Rattle.split.proofs.AnyBytes.{brought_reaches}
 use Rattle.split.proofs.Brought.{Brought}
@@ -45,14 +46,13 @@ answers b c f a d e = (f, a, d, e, verdict_number f.verdict, difference_place f.
 
 -- ---- reasons
 
-pub opens_at : (b : List ℕ) (o m : ℕ) (P : ℕ → ℕ → Type 0) → opened_log b ≡ opened.Log o m → Opens b P → P o m
+pub opens_at : (b : List ℕ) (o m : ℕ) (P : ℕ → ℕ → Type 0) → opened_log b ≡ opening_at o m → Opens b P → P o m
 opens_at b o m P e (l, n, f, p) =
-    let i : l ≡ o = cc in
-    let j : n ≡ m = cc in
-    rw (i, j) at p
+    let s = opening_same l n o m (sym f ∙ e) in
+    rw (s.0, s.1) at p
 
 -- a log that opens with x + 1 entries, and the descent from the last of them to the one at position t
-module _ (b : List ℕ) (o x t : ℕ) (e : opened_log b ≡ opened.Log o (suc x)) where
+module _ (b : List ℕ) (o x t : ℕ) (e : opened_log b ≡ opening_at o (suc x)) where
   ex : suc x - 1 ≡ x
   ex = omega arith
 
@@ -71,9 +71,9 @@ module _ (b : List ℕ) (o x t : ℕ) (e : opened_log b ≡ opened.Log o (suc x)
   no_stops : (l : ℕ) (qs : List Place) → descend b o x max_height t ≡ arrived l qs → (z : Cause) → claims.Stops b (suc t) z → ⊥
   no_stops l qs f z h = let g = stops_only z h in let y : ◌≡◌ {A = ℕ} 0 1 = cc in omega arith
 
-step_causes : (b : List ℕ) (o x p : ℕ) (k : Cause) → left_step b o x p ≡ step.Refused k → (k ≡ cause.Shape) ⊎ (k ≡ cause.Link)
+step_causes : (b : List ℕ) (o x p : ℕ) (k : Cause) → left_step b o x p ≡ Err k → (k ≡ cause.Shape) ⊎ (k ≡ cause.Link)
 step_causes b o x p k =
-    by_left_step (λ s. s ≡ step.Refused k → (k ≡ cause.Shape) ⊎ (k ≡ cause.Link)) b o x p
+    by_left_step (λ s. s ≡ Err k → (k ≡ cause.Shape) ⊎ (k ≡ cause.Link)) b o x p
     (λ n h. inl (cc)) (λ s n h. inr (cc)) (λ s f h. let z : ◌≡◌ {A = ℕ} 0 1 = cc in absurd (omega arith))
 
 -- ---- the order of the checks
@@ -91,7 +91,7 @@ module _ (b c : List ℕ) where
   )
 
   -- both logs are open, and n is t + 1
-  module _ (o x q y t : ℕ) (fo : opened_log b ≡ opened.Log o (suc x)) (so : opened_log c ≡ opened.Log q (suc y))
+  module _ (o x q y t : ℕ) (fo : opened_log b ≡ opening_at o (suc x)) (so : opened_log c ≡ opening_at q (suc y))
       (n : min (suc x) (suc y) ≡ suc t) where
     least : claims.Least b c (suc t)
     least = (o, suc x, fo, (q, suc y, so, (sym n, omega arith)))
@@ -254,7 +254,7 @@ module _ (b c : List ℕ) where
     )
 
   -- one log is empty
-  none : (o m q k : ℕ) → opened_log b ≡ opened.Log o m → opened_log c ≡ opened.Log q k → min m k ≡ 0 → Rest (claims.reasons_bringing b c)
+  none : (o m q k : ℕ) → opened_log b ≡ opening_at o m → opened_log c ≡ opening_at q k → min m k ≡ 0 → Rest (claims.reasons_bringing b c)
   none o m q k fo so n = inr (
     λ h. not_least h.0 h.1,
     inr (
@@ -272,7 +272,7 @@ module _ (b c : List ℕ) where
       not_least : (j : ℕ) → claims.Least b c j → ⊥
       not_least j h = let g = opens_at c q k _ so (opens_at b o m _ fo h) in omega (arith, g.0, g.1, n)
 
-  opening_both : (o m q k n : ℕ) → opened_log b ≡ opened.Log o m → opened_log c ≡ opened.Log q k → min m k ≡ n
+  opening_both : (o m q k n : ℕ) → opened_log b ≡ opening_at o m → opened_log c ≡ opening_at q k → min m k ≡ n
       → Rest (claims.reasons_bringing b c)
   opening_both o m q k zero fo so n = none o m q k fo so n
   opening_both o (suc x) q (suc y) (suc t) fo so n =
@@ -280,14 +280,14 @@ module _ (b c : List ℕ) where
   opening_both o zero q k (suc t) fo so n = absurd (omega arith)
   opening_both o (suc x) q zero (suc t) fo so n = absurd (omega arith)
 
-  decided : (r s : Opened) → opened_log b ≡ r → opened_log c ≡ s → Rest (claims.reasons b c)
+  decided : (r s : Option Opened) → opened_log b ≡ r → opened_log c ≡ s → Rest (claims.reasons b c)
   unfolding searched
-  decided opened.Refused s f g = inl (f, rw f refl)
-  decided (opened.Log o m) opened.Refused f g =
+  decided None s f g = inl (f, rw f refl)
+  decided (Some l) None f g =
       inr (λ h. let z : ◌≡◌ {A = ℕ} 0 1 = cc in omega arith, inl (g, rw (f, g) refl))
-  decided (opened.Log o m) (opened.Log q k) f g = inr (
+  decided (Some l) (Some r) f g = inr (
     λ h. let z : ◌≡◌ {A = ℕ} 0 1 = cc in omega arith,
-    inr (λ h. let z : ◌≡◌ {A = ℕ} 0 1 = cc in omega arith, opening_both o m q k (min m k) f g refl),
+    inr (λ h. let z : ◌≡◌ {A = ℕ} 0 1 = cc in omega arith, opening_both l.start l.count r.start r.count (min l.count r.count) f g refl),
   )
 
 pub search_decided : claims.SearchDecided

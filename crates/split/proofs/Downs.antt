@@ -5,14 +5,14 @@ use mathlib.Core.Path.{◌≡◌, refl, sym, ap, ap₂, ◌∙◌}
 use Prim.Native.Nat.{ℕ, zero, suc, ◌≤◌, ◌<◌}
 use native.Mathlib.Omega.{arith}
 use lib.ListN.{length}
+use Rattle.std.specs.Prelude.{Err, Ok}
 use Rattle.slate.specs.Address.{highest}
 use Rattle.slate.specs.Bytes.{same}
 use Rattle.slate.specs.Digits.{base, digit, left, max_height}
 use Rattle.entry.specs.Read.{digest_at, entry_len_at, left_digest_at}
 use Rattle.entry.specs.Walk.{Kept, Place, SameEntry, arrived, descend, left_step, reading}
 use Rattle.entry.specs.declared.Cause.{Cause}
-use Rattle.entry.specs.declared.Step.{Step}
-use Rattle.entry.specs.declared.Step.TheVariants as step
+use Rattle.entry.specs.Walk.{Step}
 use Rattle.split.specs.Below.{Below, after_both, blocked, down, leaf, reading_both}
 use Rattle.split.specs.declared.Side.{Side}
 use Rattle.slate.proofs.Addresses.{to_highest}
@@ -37,8 +37,8 @@ left_entry x p l = record { begins = l; position = left x p }
 pub record Turned (b c : List ℕ) (o q x p t l m : ℕ) (qs rs : List Place) : Type 0 where
   pub first : ℕ
   pub second : ℕ
-  pub first_step : left_step b o x p ≡ step.To first
-  pub second_step : left_step c q x p ≡ step.To second
+  pub first_step : left_step b o x p ≡ Ok first
+  pub second_step : left_step c q x p ≡ Ok second
   pub first_rest : List Place
   pub second_rest : List Place
   pub below : down b c first second (left x p) p ≡ leaf t l m first_rest second_rest
@@ -58,13 +58,13 @@ module _ (b c : List ℕ) (o q x p : ℕ) where
     down_right e n = rw (d, e, same_refl (left_digest_at c q x p), same_ne (digest_at b o x p) (digest_at c q x p) n)
 
     pub down_left : (left_digest_at b o x p ≡ left_digest_at c q x p → ⊥)
-        → (i j : ℕ) → left_step b o x p ≡ step.To i → left_step c q x p ≡ step.To j
+        → (i j : ℕ) → left_step b o x p ≡ Ok i → left_step c q x p ≡ Ok j
         → down b c o q x (suc p) ≡ reading_both (left_entry x p i) (left_entry x p j) (down b c i j (left x p) p)
     unfolding down
     down_left n i j f s = rw (d, same_ne (left_digest_at b o x p) (left_digest_at c q x p) n, f, s)
 
   module _ (t l m : ℕ) (qs rs : List Place) where
-    reading_turned : (i j : ℕ) → left_step b o x p ≡ step.To i → left_step c q x p ≡ step.To j
+    reading_turned : (i j : ℕ) → left_step b o x p ≡ Ok i → left_step c q x p ≡ Ok j
         → (d : Below) → down b c i j (left x p) p ≡ d
         → reading_both (left_entry x p i) (left_entry x p j) d ≡ leaf t l m qs rs
         → Turned b c o q x p t l m qs rs
@@ -85,9 +85,9 @@ module _ (b c : List ℕ) (o q x p : ℕ) where
     after_turned : (r s : Step) → left_step b o x p ≡ r → left_step c q x p ≡ s
         → after_both r s (λ i j. reading_both (left_entry x p i) (left_entry x p j) (down b c i j (left x p) p)) ≡ leaf t l m qs rs
         → Turned b c o q x p t l m qs rs
-    after_turned (step.To i) (step.To j) f g e = reading_turned i j f g (down b c i j (left x p) p) refl e
-    after_turned (step.To i) (step.Refused k) f g e = no_leaf e
-    after_turned (step.Refused k) s f g e = no_leaf e
+    after_turned (Ok i) (Ok j) f g e = reading_turned i j f g (down b c i j (left x p) p) refl e
+    after_turned (Ok i) (Err k) f g e = no_leaf e
+    after_turned (Err k) s f g e = no_leaf e
 
     -- an answer by cases
     pub by_down {ℓ} : {P : Type ℓ} → down b c o q x (suc p) ≡ leaf t l m qs rs

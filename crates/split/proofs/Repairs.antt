@@ -11,10 +11,11 @@ use Rattle.slate.specs.Comparison.{compared}
 use Rattle.slate.specs.Length.{offset}
 use Rattle.entry.specs.Log.{Begins, Values, log}
 use Rattle.entry.specs.Shape.{opened_log}
-use Rattle.entry.specs.declared.Opened.TheVariants as opened
+use Rattle.entry.specs.Opening.{opening_at}
 use Rattle.split.specs.Claims as claims
 use Rattle.split.specs.Claims.{Heals}
 use Rattle.slate.proofs.Comparisons.{common_first, common_second, common_taken}
+use Rattle.entry.proofs.Cases.{opening_same}
 use Rattle.entry.proofs.Claimed.{opening_counts}
 use Rattle.entry.proofs.FirstValues.{cut_log}
 use Rattle.ringlog.proofs.Blanked.{write_blank}
@@ -42,8 +43,8 @@ heals vs ws k b ok lv lw e begins =
     )
 
 -- a log of the values vs has as many entries
-log_count : (vs : List (List ℕ)) (o n : ℕ) → Values vs → opened_log (log vs) ≡ opened.Log o n → n ≡ length vs
-log_count vs o n ok h = let e : opened.Log o n ≡ opened.Log (offset vs (length vs - 1)) (length vs) = sym h ∙ opening_counts vs ok in cc
+log_count : (vs : List (List ℕ)) (o n : ℕ) → Values vs → opened_log (log vs) ≡ opening_at o n → n ≡ length vs
+log_count vs o n ok h = (opening_same o n _ _ (sym h ∙ opening_counts vs ok)).1
 
 pub repair_heals : claims.RepairHeals
 repair_heals vs ws a d okv okw h s e b =

@@ -5,6 +5,7 @@ use mathlib.Core.Path.{◌≡◌, refl, ◌∙◌}
 use Prim.Native.Nat.{ℕ, zero, suc, ◌+◌, ◌-◌, min}
 use native.Mathlib.Omega.{arith}
 use lib.Dec.{eqb, ltb}
+use Rattle.std.specs.Prelude.{None, Option, Some}
 use Rattle.slate.specs.Bytes.{same}
 use Rattle.slate.specs.Comparison.{Compared, Verdict, by_length, differ_at, equal, first_shorter, second_shorter}
 use Rattle.slate.specs.Digits.{max_height}
@@ -13,7 +14,7 @@ use Rattle.entry.specs.Shape.{opened_log}
 use Rattle.entry.specs.Walk.{Descent, Place, arrived, descend, stopped}
 use Rattle.entry.specs.declared.Cause.{Cause}
 use Rattle.entry.specs.declared.Opened.{Opened}
-use Rattle.entry.specs.declared.Opened.TheVariants as opened
+use Rattle.entry.specs.Opening.{opening_at}
 use Rattle.split.specs.Below.{Below, blocked, down, leaf}
 use Rattle.split.specs.Search.{Trace, answered, opening, refused, search_at, search_below, search_brought, search_from, search_opened, searched}
 use Rattle.split.specs.declared.Side.{Side}
@@ -48,7 +49,7 @@ abbrev pub unmoved : ℕ → ℕ → Trace
 unmoved o n = record { count = n; reads = (opening o n).reads; at = 0 }
 
 -- one log is empty
-pub searched_none : (b c : List ℕ) (o m q k : ℕ) → opened_log b ≡ opened.Log o m → opened_log c ≡ opened.Log q k → min m k ≡ 0
+pub searched_none : (b c : List ℕ) (o m q k : ℕ) → opened_log b ≡ opening_at o m → opened_log c ≡ opening_at q k → min m k ≡ 0
     → searched b c ≡ answered (ended 0 m k) (unmoved o m) (unmoved q k)
 unfolding searched
 searched_none b c o m q k f s n = rw (f, s, n, opening_count o m, opening_count q k)
@@ -76,7 +77,7 @@ module _ {b : List ℕ} {o x t l : ℕ} {qs : List Place} (a : Brought b o x t l
 -- ---- an answer by cases
 
 module _ (b c : List ℕ) (P : Compared → Trace → Trace → Type 0)
-    (none : (o m q k : ℕ) → opened_log b ≡ opened.Log o m → opened_log c ≡ opened.Log q k → min m k ≡ 0
+    (none : (o m q k : ℕ) → opened_log b ≡ opening_at o m → opened_log c ≡ opening_at q k → min m k ≡ 0
     → P (ended 0 m k) (unmoved o m) (unmoved q k))
     (agree : (o x q y t l m : ℕ) (qs rs : List Place) → Brought b o x t l qs → Brought c q y t m rs → min (suc x) (suc y) ≡ suc t
     → digest_at b l t max_height ≡ digest_at c m t max_height
@@ -99,7 +100,7 @@ module _ (b c : List ℕ) (P : Compared → Trace → Trace → Type 0)
     no_answer : (s : Side) (k : Cause) → refused s k ≡ answered f a d → P f a d
     no_answer s k e = let z : ◌≡◌ {A = ℕ} 0 1 = cc in absurd (omega arith)
 
-    module _ (o x q y t : ℕ) (fo : opened_log b ≡ opened.Log o (suc x)) (so : opened_log c ≡ opened.Log q (suc y))
+    module _ (o x q y t : ℕ) (fo : opened_log b ≡ opening_at o (suc x)) (so : opened_log c ≡ opening_at q (suc y))
         (n : min (suc x) (suc y) ≡ suc t) where
       at_entry : (l m : ℕ) (qs rs : List Place) → Brought b o x t l qs → Brought c q y t m rs
           → search_at b c t (trace_to o x qs l) (trace_to q y rs m) ≡ answered f a d → P f a d
@@ -122,7 +123,7 @@ module _ (b c : List ℕ) (P : Compared → Trace → Trace → Type 0)
       by_steps (arrived l qs) (stopped k) g h e = no_answer _ k e
       by_steps (stopped k) s g h e = no_answer _ k e
 
-    by_counts : (o m q k n : ℕ) → opened_log b ≡ opened.Log o m → opened_log c ≡ opened.Log q k → min m k ≡ n
+    by_counts : (o m q k n : ℕ) → opened_log b ≡ opening_at o m → opened_log c ≡ opening_at q k → min m k ≡ n
         → search_from b c n (opening o m) (opening q k) ≡ answered f a d → P f a d
     by_counts o m q k zero fo so n e = answers _ _ _ (rw (opening_count o m, opening_count q k) at e) (none o m q k fo so n)
     by_counts o (suc x) q (suc y) (suc t) fo so n e =
@@ -132,10 +133,10 @@ module _ (b c : List ℕ) (P : Compared → Trace → Trace → Type 0)
     by_counts o zero q k (suc t) fo so n e = absurd (omega arith)
     by_counts o (suc x) q zero (suc t) fo so n e = absurd (omega arith)
 
-    by_opened : (r s : Opened) → opened_log b ≡ r → opened_log c ≡ s → search_opened b c r s ≡ answered f a d → P f a d
-    by_opened (opened.Log o m) (opened.Log q k) fo so e = by_counts o m q k (min m k) fo so refl e
-    by_opened (opened.Log o m) opened.Refused fo so e = no_answer _ _ e
-    by_opened opened.Refused s fo so e = no_answer _ _ e
+    by_opened : (r s : Option Opened) → opened_log b ≡ r → opened_log c ≡ s → search_opened b c r s ≡ answered f a d → P f a d
+    by_opened (Some l) (Some r) fo so e = by_counts l.start l.count r.start r.count (min l.count r.count) fo so refl e
+    by_opened (Some l) None fo so e = no_answer _ _ e
+    by_opened None s fo so e = no_answer _ _ e
 
     pub by_answered : searched b c ≡ answered f a d → P f a d
     unfolding searched

@@ -5,14 +5,14 @@ use mathlib.Core.Logic.{◌⊎◌, inl, inr}
 use mathlib.Core.Path.{◌≡◌, refl, sym, ap, ◌∙◌}
 use Prim.Native.Nat.{ℕ, zero, suc, ◌-◌, ◌≤◌, ◌<◌}
 use native.Mathlib.Omega.{arith}
+use Rattle.std.specs.Prelude.{Err, Ok}
 use Rattle.slate.specs.Bytes.{same}
 use Rattle.slate.specs.Digits.{base, digit, left, ones_below}
 use Rattle.entry.specs.Read.{digest_at, digest_place, left_digest_at}
 use Rattle.entry.specs.Walk.{Place, arrived, descend, left_step}
 use Rattle.entry.specs.declared.Cause.{Cause}
 use Rattle.entry.specs.declared.Cause.TheVariants as cause
-use Rattle.entry.specs.declared.Step.{Step}
-use Rattle.entry.specs.declared.Step.TheVariants as step
+use Rattle.entry.specs.Walk.{Step}
 use Rattle.split.specs.Below.{Below, after_both, blocked, down, leaf, reading_both}
 use Rattle.split.specs.Claims as claims
 use Rattle.split.specs.declared.Side.{Side}
@@ -39,7 +39,7 @@ module _ (b c : List ℕ) (o q x p : ℕ) where
   none_differ d n e = n (digest_none b o x p d ∙ e ∙ sym (digest_none c q x p d))
 
   -- left steps from left digests that differ lead to nodes that differ
-  left_differ : (l m : ℕ) → left_step b o x p ≡ step.To l → left_step c q x p ≡ step.To m
+  left_differ : (l m : ℕ) → left_step b o x p ≡ Ok l → left_step c q x p ≡ Ok m
       → (left_digest_at b o x p ≡ left_digest_at c q x p → ⊥) → digest_at b l (left x p) p ≡ digest_at c m (left x p) p → ⊥
   left_differ l m f s n e = n (sym (left_step_to b o x p l f).2 ∙ e ∙ (left_step_to c q x p m s).2)
 
@@ -65,8 +65,8 @@ leaves_differ b c o q x (suc p) t l m qs rs n h e =
 abbrev Why : List ℕ → List ℕ → ℕ → ℕ → ℕ → ℕ → Side → Cause → Type 0
 Why b c l r y p s k =
     ((left_digest_at b l y p ≡ left_digest_at c r y p → ⊥)
-    × (((left_step b l y p ≡ step.Refused k) × (s ≡ side.First))
-    ⊎ ((e : ℕ) × (left_step b l y p ≡ step.To e) × (left_step c r y p ≡ step.Refused k) × (s ≡ side.Second))))
+    × (((left_step b l y p ≡ Err k) × (s ≡ side.First))
+    ⊎ ((e : ℕ) × (left_step b l y p ≡ Ok e) × (left_step c r y p ≡ Err k) × (s ≡ side.Second))))
     ⊎ ((left_digest_at b l y p ≡ left_digest_at c r y p) × (digest_at b l y p ≡ digest_at c r y p) × (s ≡ side.Both) × (k ≡ cause.Link))
 
 -- the nodes at which the way down from the entries at position x stops
@@ -132,7 +132,7 @@ module _ (b c : List ℕ) (o q x p : ℕ) (s : Side) (k : Cause) where
   stop_right d z =
       stop_inside z (omega (arith, z.low, left_end x p d)) (descend_right b o x p _ d z.low) (descend_right c q x p _ d z.low)
 
-  stop_left : digit x p ≡ 1 → (l m : ℕ) → left_step b o x p ≡ step.To l → left_step c q x p ≡ step.To m → Stop b c l m (left x p) p s k
+  stop_left : digit x p ≡ 1 → (l m : ℕ) → left_step b o x p ≡ Ok l → left_step c q x p ≡ Ok m → Stop b c l m (left x p) p s k
       → Stop b c o q x (suc p) s k
   stop_left d l m f g z =
       let before : z.place < base x p = omega (arith, z.high, left_pred x p d) in
@@ -182,11 +182,11 @@ down_stops b c o q x (suc p) s k n e =
         → (u v : Step) → left_step b o x p ≡ u → left_step c q x p ≡ v
         → after_both u v (λ l m. reading_both (left_entry x p l) (left_entry x p m) (down b c l m (left x p) p)) ≡ blocked s k
         → Stop b c o q x (suc p) s k
-    stepped d f rest (step.Refused j) v eu ev h =
+    stepped d f rest (Err j) v eu ev h =
         let i : j ≡ k = cc in stop_here b c o q x p s k d n (inl (f, inl (rw i at eu, cc)))
-    stepped d f rest (step.To l) (step.Refused j) eu ev h =
+    stepped d f rest (Ok l) (Err j) eu ev h =
         let i : j ≡ k = cc in stop_here b c o q x p s k d n (inl (f, inr (l, eu, rw i at ev, cc)))
-    stepped d f rest (step.To l) (step.To m) eu ev h =
+    stepped d f rest (Ok l) (Ok m) eu ev h =
         stop_left b c o q x p s k d l m eu ev
         (rest l m (left_differ b c o q x p l m eu ev f) (read _ _ (down b c l m (left x p) p) h))
 

@@ -1,10 +1,10 @@
--- The search's answers as numbers, and what the code's enums stand for.
-use Rattle.std.specs.Prelude.{ℕ, length}
+-- The search's answers as numbers, and what the code's types stand for.
+use Rattle.std.specs.Prelude.{Err, None, Ok, Option, Result, Some, ℕ, length}
 use Rattle.slate.specs.Comparison as comparison
 use Rattle.entry.specs.Refusal.{cause_number}
 use Rattle.split.specs.Search as search
 use Rattle.split.specs.declared.SearchAnswer.{SearchAnswer}
-use Rattle.split.specs.declared.SearchAnswer.TheVariants as answer
+use Rattle.split.specs.declared.SearchRefusal.{SearchRefusal}
 use Rattle.split.specs.declared.Side.{Side}
 use Rattle.split.specs.declared.Side.TheVariants as side
 use Rattle.split.specs.declared.Verdict.{Verdict}
@@ -30,6 +30,13 @@ difference_place comparison.first_shorter = 0
 difference_place comparison.second_shorter = 0
 difference_place (comparison.differ_at i) = i
 
+-- the i where they differ, if they do
+abbrev pub difference : comparison.Verdict → Option ℕ
+difference comparison.equal = None
+difference comparison.first_shorter = None
+difference comparison.second_shorter = None
+difference (comparison.differ_at i) = Some i
+
 -- number 0 and the answer, or the number of a refusal, its side, and zero for all else
 pub record Split : Type 0 where
   pub number : ℕ
@@ -52,13 +59,13 @@ abbrev pub split_of : search.Search → Split
 split_of (search.answered f a d) = found f.common f.verdict (length a.reads) (length d.reads)
 split_of (search.refused s k) = refusal (cause_number k) (side_number s)
 
--- what the enums of the code stand for
+-- what the types of the code stand for
 abbrev pub verdict_of : Verdict → comparison.Verdict
 verdict_of verdict.Same = comparison.equal
 verdict_of verdict.FirstShorter = comparison.first_shorter
 verdict_of verdict.SecondShorter = comparison.second_shorter
 verdict_of (verdict.DifferAt i) = comparison.differ_at i
 
-abbrev pub answer_of : SearchAnswer → Split
-answer_of (answer.Answered n v r s) = found n (verdict_of v) r s
-answer_of (answer.Refused s k) = refusal (cause_number k) (side_number s)
+abbrev pub answer_of : Result SearchAnswer SearchRefusal → Split
+answer_of (Ok a) = found a.common (verdict_of a.verdict) a.first_reads a.second_reads
+answer_of (Err r) = refusal (cause_number r.cause) (side_number r.side)

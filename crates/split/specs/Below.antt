@@ -1,18 +1,17 @@
 -- Down from two unequal tops to the leftmost difference, on any bytes, with the entries read in each log.
-use Rattle.std.specs.Prelude.{List, [], ◌∷◌, ℕ, zero, suc, length}
+use Rattle.std.specs.Prelude.{Err, List, Ok, Result, [], ◌∷◌, ℕ, zero, suc, length}
 use Rattle.sha256.specs.Pick.{pick}
 use Rattle.slate.specs.Bytes.{same}
 use Rattle.slate.specs.Digits.{digit, if_set, left}
 use Rattle.entry.specs.Read.{digest_at, left_digest_at}
-use Rattle.entry.specs.Walk.{Place, left_step}
+use Rattle.entry.specs.Walk.{Place, Step, left_step}
 use Rattle.entry.specs.declared.Cause.{Cause}
 use Rattle.entry.specs.declared.Cause.TheVariants as cause
-use Rattle.entry.specs.declared.Step.{Step}
-use Rattle.entry.specs.declared.Step.TheVariants as step
-use Rattle.split.specs.declared.Down.{Down}
-use Rattle.split.specs.declared.Down.TheVariants as answer
+use Rattle.split.specs.declared.Leaf.{Leaf}
+use Rattle.split.specs.declared.SearchRefusal.{SearchRefusal}
 use Rattle.split.specs.declared.Side.{Side}
 use Rattle.split.specs.declared.Side.TheVariants as side
+use Rattle.split.specs.declared.pair.Pair.{Pair}
 
 -- the leaf of the difference: its position, where its entries begin, and the entries read on the way; or a refusal
 pub data Below : Type 0 where
@@ -26,9 +25,9 @@ reading_both q r (blocked s k) = blocked s k
 
 -- the first log's step before the second's
 abbrev pub after_both : Step → Step → (ℕ → ℕ → Below) → Below
-after_both (step.Refused k) s f = blocked side.First k
-after_both (step.To l) (step.Refused k) f = blocked side.Second k
-after_both (step.To l) (step.To m) f = f l m
+after_both (Err k) s f = blocked side.First k
+after_both (Ok l) (Err k) f = blocked side.Second k
+after_both (Ok l) (Ok m) f = f l m
 
 -- from the highest nodes of height at most h in the entries at position x, which begin at o in b and at q in c. At a leaf the difference is
 -- there. At a node whose left digests differ: left by a left step in each log; left equal: the right child, whose digests must differ, else 7
@@ -44,6 +43,11 @@ down b c o q x (suc p) =
     (down b c o q x p)
 
 -- what the code answers: the entries read are counted
-abbrev pub down_of : Below → Down
-down_of (leaf t l m qs rs) = answer.Leaf t l m (length qs) (length rs)
-down_of (blocked s k) = answer.Refused s k
+abbrev pub down_of : Below → Result Leaf SearchRefusal
+down_of (leaf t l m qs rs) = Ok (record { position = t; first = l; second = m; first_reads = length qs; second_reads = length rs })
+down_of (blocked s k) = Err (record { side = s; cause = k })
+
+-- and of the left steps alone: the entries to which they lead
+abbrev pub steps_of : Result Pair SearchRefusal → Below
+steps_of (Ok a) = leaf a.first.position a.first.start a.second.start [] []
+steps_of (Err r) = blocked r.side r.cause

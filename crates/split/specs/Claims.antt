@@ -1,6 +1,6 @@
 -- Demand 3, and the repair piece: each claim is a type, and proofs/ has its proof.
 -- The search of b and c answers with f, the count in common and the verdict, and with each log as it leaves it: a and d.
-use Rattle.std.specs.Prelude.{List, [], ◌∷◌, ◌++◌, ◌⊎◌, ◌≡◌, ℕ, suc, ◌+◌, ◌-◌, ◌≤◌, ◌<◌, min, length, get_or, take, replicate}
+use Rattle.std.specs.Prelude.{Err, List, Ok, Option, Result, [], ◌∷◌, ◌++◌, ◌⊎◌, ◌≡◌, ℕ, suc, ◌+◌, ◌-◌, ◌≤◌, ◌<◌, min, length, get_or, take, replicate}
 use Rattle.sha256.specs.Reasons.{Decided, Reason}
 use Rattle.slate.specs.Address.{highest, left_child, right_height}
 use Rattle.slate.specs.Bytes.{part}
@@ -17,20 +17,20 @@ use Rattle.entry.specs.Walk.{Kept, Place, arrived, descend, left_step}
 use Rattle.entry.specs.Write.{write_at}
 use Rattle.entry.specs.declared.Cause.{Cause}
 use Rattle.entry.specs.declared.Cause.TheVariants as cause
-use Rattle.entry.specs.declared.Opened.TheVariants as opened
-use Rattle.entry.specs.declared.Step.TheVariants as step
+use Rattle.entry.specs.Opening.{opening_at}
 use Rattle.ringlog.specs.Answer.{counted}
 use Rattle.ringlog.specs.Cut.{after_cut, cut_to}
 use Rattle.split.specs.Answer.{Split, answer_of, split_of}
 use Rattle.split.specs.Below.{blocked, down, leaf}
 use Rattle.split.specs.Reads.{reads_formula}
-use Rattle.split.specs.Repair.{piece_of, place_of}
+use Rattle.split.specs.Repair.{Piece, numbered, piece_of, place_of}
 use Rattle.split.specs.Search.{Trace, answered, refused, searched}
-use Rattle.split.specs.declared.Piece.{Piece}
+use Rattle.split.specs.declared.Piece as code
 use Rattle.split.specs.declared.SearchAnswer.{SearchAnswer}
-use Rattle.split.specs.declared.SearchAnswer.TheVariants as case
+use Rattle.split.specs.declared.SearchRefusal.{SearchRefusal}
 use Rattle.split.specs.declared.Side.{Side}
 use Rattle.split.specs.declared.Side.TheVariants as side
+use Rattle.split.specs.declared.Verdict.{Verdict as Code}
 use Rattle.split.specs.declared.Verdict.TheVariants as verdict
 
 -- ---- two well-formed logs, which are the logs of the values vs and ws
@@ -92,22 +92,29 @@ numbers n v i r s = record { number = 0; side = 0; common = n; verdict = v; plac
 abbrev pub zeros : ℕ → ℕ → Split
 zeros k s = record { number = k; side = s; common = 0; verdict = 0; place = 0; first_reads = 0; second_reads = 0 }
 
+-- an answer and a refusal of the code
+abbrev pub answer : ℕ → Code → ℕ → ℕ → Result SearchAnswer SearchRefusal
+answer n v r s = Ok (record { common = n; verdict = v; first_reads = r; second_reads = s })
+
+abbrev pub no_answer : Side → Cause → Result SearchAnswer SearchRefusal
+no_answer s k = Err (record { side = s; cause = k })
+
 -- the cases of an answer: 0 same, 1 first shorter, 2 second shorter, 3 differ at i. Of a refusal: 1 the first log, 2 the second, 3 both
 abbrev pub CasesNumbered : Type 0
 CasesNumbered =
     ((n r s : ℕ)
-    → (answer_of (case.Answered n verdict.Same r s) ≡ numbers n 0 0 r s)
-    × (answer_of (case.Answered n verdict.FirstShorter r s) ≡ numbers n 1 0 r s)
-    × (answer_of (case.Answered n verdict.SecondShorter r s) ≡ numbers n 2 0 r s)
-    × ((i : ℕ) → answer_of (case.Answered n (verdict.DifferAt i) r s) ≡ numbers n 3 i r s))
+    → (answer_of (answer n verdict.Same r s) ≡ numbers n 0 0 r s)
+    × (answer_of (answer n verdict.FirstShorter r s) ≡ numbers n 1 0 r s)
+    × (answer_of (answer n verdict.SecondShorter r s) ≡ numbers n 2 0 r s)
+    × ((i : ℕ) → answer_of (answer n (verdict.DifferAt i) r s) ≡ numbers n 3 i r s))
     × ((k : Cause)
-    → (answer_of (case.Refused side.First k) ≡ zeros (cause_number k) 1)
-    × (answer_of (case.Refused side.Second k) ≡ zeros (cause_number k) 2)
-    × (answer_of (case.Refused side.Both k) ≡ zeros (cause_number k) 3))
+    → (answer_of (no_answer side.First k) ≡ zeros (cause_number k) 1)
+    × (answer_of (no_answer side.Second k) ≡ zeros (cause_number k) 2)
+    × (answer_of (no_answer side.Both k) ≡ zeros (cause_number k) 3))
 
--- an answer's numbers tell its case, so that the promise decides the enum
+-- an answer's numbers tell its case, so that the promise decides the answer
 abbrev pub OneAnswer : Type 0
-OneAnswer = (r s : SearchAnswer) → answer_of r ≡ answer_of s → r ≡ s
+OneAnswer = (r s : Result SearchAnswer SearchRefusal) → answer_of r ≡ answer_of s → r ≡ s
 
 -- entry n of the log b, as the descent from its last entry reaches it, begins at l
 abbrev pub Reaches : List ℕ → ℕ → ℕ → Type 0
@@ -183,7 +190,7 @@ DownTurns =
     → ((h : ℕ) → down b c o q (i - 1) h ≡ down b c o q (i - 1) (highest (i - 1) h))
     × (down b c o q (i - 1) 0 ≡ leaf (i - 1) o q [] [])
     × ((p : ℕ) → digit (i - 1) p ≡ 1 → (left_digest_at b o (i - 1) p ≡ left_digest_at c q (i - 1) p → ⊥)
-    → (l r : ℕ) → left_step b o (i - 1) p ≡ step.To l → left_step c q (i - 1) p ≡ step.To r
+    → (l r : ℕ) → left_step b o (i - 1) p ≡ Ok l → left_step c q (i - 1) p ≡ Ok r
     → (t e g : ℕ) (qs rs : List Place) → down b c l r (left_child i p - 1) p ≡ leaf t e g qs rs
     → down b c o q (i - 1) (suc p)
     ≡ leaf t e g (record { begins = l; position = left_child i p - 1 } ∷ qs) (record { begins = r; position = left_child i p - 1 } ∷ rs))
@@ -196,8 +203,8 @@ DownTurns =
 abbrev pub Blocks : List ℕ → List ℕ → ℕ → ℕ → ℕ → ℕ → Side → Cause → Type 0
 Blocks b c l r j p s k =
     ((left_digest_at b l (j - 1) p ≡ left_digest_at c r (j - 1) p → ⊥)
-    × (((left_step b l (j - 1) p ≡ step.Refused k) × (s ≡ side.First))
-    ⊎ ((e : ℕ) × (left_step b l (j - 1) p ≡ step.To e) × (left_step c r (j - 1) p ≡ step.Refused k) × (s ≡ side.Second))))
+    × (((left_step b l (j - 1) p ≡ Err k) × (s ≡ side.First))
+    ⊎ ((e : ℕ) × (left_step b l (j - 1) p ≡ Ok e) × (left_step c r (j - 1) p ≡ Err k) × (s ≡ side.Second))))
     ⊎ ((left_digest_at b l (j - 1) p ≡ left_digest_at c r (j - 1) p) × (digest_at b l (j - 1) p ≡ digest_at c r (j - 1) p)
     × (s ≡ side.Both) × (k ≡ cause.Link))
 
@@ -229,7 +236,7 @@ AnswerSays =
 abbrev pub ReadsCounted : Type 0
 ReadsCounted =
     (b c : List ℕ) (f : Compared) (a d : Trace) → searched b c ≡ answered f a d
-    → (o : ℕ) × (q : ℕ) × (opened_log b ≡ opened.Log o a.count) × (opened_log c ≡ opened.Log q d.count)
+    → (o : ℕ) × (q : ℕ) × (opened_log b ≡ opening_at o a.count) × (opened_log c ≡ opening_at q d.count)
     × (length a.reads ≡ reads_formula a.count (min a.count d.count) f.verdict)
     × (length d.reads ≡ reads_formula d.count (min a.count d.count) f.verdict)
 
@@ -249,6 +256,10 @@ PiecePlaced =
     → ((p.donor ≡ 1) × (p.offset + p.length ≡ length b) × (part b p.offset p.length ≡ piece_of b c (searched b c)))
     ⊎ (((p.donor ≡ 2) × (p.offset + p.length ≡ length c) × (part c p.offset p.length ≡ piece_of b c (searched b c)))
     ⊎ ((p.donor ≡ 0) × (p.offset ≡ 0) × (p.length ≡ 0) × ([] ≡ piece_of b c (searched b c))))
+
+-- a piece's numbers tell the piece, so that the promise decides the answer
+abbrev pub OnePiece : Type 0
+OnePiece = (p q : Option code.Piece) → numbered p ≡ numbered q → p ≡ q
 
 -- where the piece starts in the log b, as the search reached it there: where entry i begins, if they differ at i; else at the end of
 -- entry n; at 0 if n = 0

@@ -1,5 +1,5 @@
--- What the internal enums of the code hold of a search: the entries read are counted.
-use Rattle.std.specs.Prelude.{List, ℕ, suc, ◌+◌, length}
+-- What the internal types of the code hold of a search: the entries read are counted.
+use Rattle.std.specs.Prelude.{Err, List, Ok, Result, ℕ, suc, ◌+◌, length}
 use Rattle.sha256.specs.Pick.{pick}
 use Rattle.slate.specs.Bytes.{same}
 use Rattle.slate.specs.Comparison as comparison
@@ -8,7 +8,7 @@ use Rattle.entry.specs.Read.{digest_at, entry_len_at}
 use Rattle.split.specs.Below.{Below, blocked, down, leaf}
 use Rattle.split.specs.Search.{Search, Trace, answered, refused}
 use Rattle.split.specs.declared.Located.{Located}
-use Rattle.split.specs.declared.Located.TheVariants as located
+use Rattle.split.specs.declared.SearchRefusal.{SearchRefusal}
 use Rattle.split.specs.declared.Tally.{Tally}
 use Rattle.split.specs.declared.Verdict.{Verdict}
 use Rattle.split.specs.declared.Verdict.TheVariants as verdict
@@ -22,9 +22,9 @@ to_verdict (comparison.differ_at i) = verdict.DifferAt i
 abbrev pub tally : Trace → Tally
 tally a = record { count = a.count; reads = length a.reads; at = a.at }
 
-abbrev pub located_of : Search → Located
-located_of (answered f a d) = located.Found f.common (to_verdict f.verdict) (tally a) (tally d)
-located_of (refused s k) = located.Refused s k
+abbrev pub located_of : Search → Result Located SearchRefusal
+located_of (answered f a d) = Ok (record { common = f.common; verdict = to_verdict f.verdict; first = tally a; second = tally d })
+located_of (refused s k) = Err (record { side = s; cause = k })
 
 -- ---- the search from entry n on, with the entries read before it counted
 
@@ -35,13 +35,18 @@ further a o n = record { count = a.count; reads = a.reads + n; at = o }
 abbrev pub past : List ℕ → Tally → ℕ → Tally
 past b a t = record { count = a.count; reads = a.reads; at = a.at + entry_len_at b a.at t }
 
-abbrev pub located_below : Tally → Tally → Below → Located
+abbrev pub located_below : Tally → Tally → Below → Result Located SearchRefusal
 located_below a d (leaf t l m qs rs) =
-    located.Found t (verdict.DifferAt (suc t)) (further a l (length qs)) (further d m (length rs))
-located_below a d (blocked s k) = located.Refused s k
+    Ok (record { common = t; verdict = verdict.DifferAt (suc t); first = further a l (length qs); second = further d m (length rs) })
+located_below a d (blocked s k) = Err (record { side = s; cause = k })
 
-abbrev pub located_at : List ℕ → List ℕ → ℕ → Tally → Tally → Located
+abbrev pub located_at : List ℕ → List ℕ → ℕ → Tally → Tally → Result Located SearchRefusal
 located_at b c t a d =
     pick (same (digest_at b a.at t max_height) (digest_at c d.at t max_height))
-    (located.Found (suc t) (to_verdict (comparison.by_length a.count d.count)) (past b a t) (past c d t))
+    (Ok (record {
+      common = suc t;
+      verdict = to_verdict (comparison.by_length a.count d.count);
+      first = past b a t;
+      second = past c d t;
+    }))
     (located_below a d (down b c a.at d.at t max_height))

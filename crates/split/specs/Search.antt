@@ -1,5 +1,5 @@
 -- The search, on any two byte strings, with the entries that it reads in each.
-use Rattle.std.specs.Prelude.{List, [], ◌∷◌, ◌++◌, ℕ, zero, suc, ◌+◌, ◌-◌, min}
+use Rattle.std.specs.Prelude.{List, None, Option, Some, [], ◌∷◌, ◌++◌, ℕ, zero, suc, ◌+◌, ◌-◌, min}
 use Rattle.sha256.specs.Pick.{pick}
 use Rattle.slate.specs.Bytes.{same}
 use Rattle.slate.specs.Comparison.{Compared, by_length, differ_at}
@@ -10,7 +10,6 @@ use Rattle.entry.specs.Shape.{opened_log}
 use Rattle.entry.specs.Walk.{Descent, Place, arrived, descend, stopped}
 use Rattle.entry.specs.declared.Cause.{Cause}
 use Rattle.entry.specs.declared.Opened.{Opened}
-use Rattle.entry.specs.declared.Opened.TheVariants as opened
 use Rattle.split.specs.Below.{Below, blocked, down, leaf}
 use Rattle.split.specs.declared.Side.{Side}
 use Rattle.split.specs.declared.Side.TheVariants as side
@@ -69,10 +68,10 @@ search_from b c (suc t) a d =
     search_brought b c t a d (descend b a.at (a.count - 1) max_height t) (descend c d.at (d.count - 1) max_height t)
 
 -- the first is opened, then the second: 6 for the one that does not open
-abbrev pub search_opened : List ℕ → List ℕ → Opened → Opened → Search
-search_opened b c opened.Refused w = refused side.First unopened
-search_opened b c (opened.Log o m) opened.Refused = refused side.Second unopened
-search_opened b c (opened.Log o m) (opened.Log q k) = search_from b c (min m k) (opening o m) (opening q k)
+abbrev pub search_opened : List ℕ → List ℕ → Option Opened → Option Opened → Search
+search_opened b c None w = refused side.First unopened
+search_opened b c (Some l) None = refused side.Second unopened
+search_opened b c (Some l) (Some r) = search_from b c (min l.count r.count) (opening l.start l.count) (opening r.start r.count)
 
 unfoldable pub searched : List ℕ → List ℕ → Search
 searched b c = search_opened b c (opened_log b) (opened_log c)

@@ -1,70 +1,62 @@
 // Down from two unequal tops to the leftmost difference.
-ghost use Rattle.std.specs.Prelude.{◌≡◌, ◌≤◌};
-ghost use Rattle.slate.specs.Digits.{max_height};
-ghost use Rattle.entry.specs.Shape.{Inside};
+ghost use Rattle.std.specs.Prelude.{◌≡◌, ◌≤◌, ◌<◌, [], IfOk};
+ghost use Rattle.slate.specs.Digits.{digit, left, max_height};
+ghost use Rattle.entry.specs.Walk.{left_step};
 ghost use Rattle.split.specs.Below as below;
 
-use crate::digests::{same_left, same_top};
-use crate::{Down, Side};
-use entry::steps::left_step;
-use entry::{Cause, Step};
-use slate::digits::{highest, left};
+use crate::pair::Pair;
+use crate::{Leaf, SearchRefusal, Side};
+use entry::Cause;
+use slate::digits::highest;
 
-// From the highest nodes of height at most `height` of the entries at this position, which begin at
-// first_at and second_at. A left step is a read of its log. Internal: both entries lie inside their
-// logs, with a value's kind.
-pub fn down(
-    first: &[u8],
-    second: &[u8],
-    first_at: usize,
-    second_at: usize,
-    position: u32,
-    height: u32,
-) -> Down
-    requires inside { Inside first.now first_at position }
-    requires inside_2 { Inside second.now second_at position }
-    requires height_le_max_height { height ≤ max_height }
-    ensures { result ≡ below.down_of (below.down first.now second.now first_at second_at position height) }
-{
-    let top = highest(position, height);
-    if top == 0 {
-        return Down::Leaf {
-            position: position,
-            first: first_at,
-            second: second_at,
-            first_reads: 0,
-            second_reads: 0,
-        };
+impl<'a> Pair<'a> {
+    // The left steps from their nodes of height p + 1, that of the first log before that of the
+    // second: the entries that they read. Internal: they have that node.
+    fn left_step(&self, p: u32) -> Result<Pair<'a>, SearchRefusal>
+        requires { (p < max_height) × (digit self.now.first.position p ≡ 1) }
+        ensures value { below.steps_of result ≡ below.after_both (left_step self.now.first.log.now self.now.first.start self.now.first.position p) (left_step self.now.second.log.now self.now.second.start self.now.first.position p) (λ l m. below.leaf (left self.now.first.position p) l m [] []) }
+        ensures logs { IfOk result (λ child. (child.first.log.now ≡ self.now.first.log.now) × (child.second.log.now ≡ self.now.second.log.now)) }
+    {
+        let first = self
+            .first
+            .left_step(p)
+            .map_err(|cause| Side::First.refusal(cause))?;
+        let second = self
+            .second
+            .left_step(p)
+            .map_err(|cause| Side::Second.refusal(cause))?;
+        Ok(Pair { first, second })
     }
-    let p = top - 1;
-    if same_left(first, second, first_at, second_at, position, p) {
-        if same_top(first, second, first_at, second_at, position, p) {
-            return Down::Refused(Side::Both, Cause::Link);
+
+    // From their highest nodes of height at most `height` down to the leaf where they differ. A left
+    // step is a read of its log.
+    pub fn down(&self, height: u32) -> Result<Leaf, SearchRefusal>
+        requires { height ≤ max_height }
+        ensures { result ≡ below.down_of (below.down self.now.first.log.now self.now.second.log.now self.now.first.start self.now.second.start self.now.first.position height) }
+    {
+        let top = highest(self.first.position, height);
+        if top == 0 {
+            return Ok(Leaf {
+                position: self.first.position,
+                first: self.first.start,
+                second: self.second.start,
+                first_reads: 0,
+                second_reads: 0,
+            });
         }
-        return down(first, second, first_at, second_at, position, p);
-    }
-    match left_step(first, first_at, position, p) {
-        Step::Refused(cause) => Down::Refused(Side::First, cause),
-        Step::To(first_to) => match left_step(second, second_at, position, p) {
-            Step::Refused(cause) => Down::Refused(Side::Second, cause),
-            Step::To(second_to) => {
-                match down(first, second, first_to, second_to, left(position, p), p) {
-                    Down::Refused(side, cause) => Down::Refused(side, cause),
-                    Down::Leaf {
-                        position: leaf,
-                        first: first_leaf,
-                        second: second_leaf,
-                        first_reads,
-                        second_reads,
-                    } => Down::Leaf {
-                        position: leaf,
-                        first: first_leaf,
-                        second: second_leaf,
-                        first_reads: first_reads + 1,
-                        second_reads: second_reads + 1,
-                    },
-                }
+        let p = top - 1;
+        if self.same_left(p) {
+            if self.same_top(p) {
+                return Err(Side::Both.refusal(Cause::Link));
             }
-        },
+            return self.down(p);
+        }
+        let child = self.left_step(p)?;
+        let leaf = child.down(p)?;
+        Ok(Leaf {
+            first_reads: leaf.first_reads + 1,
+            second_reads: leaf.second_reads + 1,
+            ..leaf
+        })
     }
 }

@@ -6,43 +6,55 @@
 // bytes.
 #![tactic(auto)]
 
-ghost use Rattle.std.specs.Prelude.{◌≡◌};
-ghost use Rattle.split.specs.Answer.{difference_place, side_number, verdict_number, verdict_of};
+ghost use Rattle.std.specs.Prelude.{◌≡◌, unwrap_or};
+ghost use Rattle.split.specs.Answer.{difference, difference_place, side_number, verdict_number, verdict_of};
+ghost use Rattle.split.specs.Repair.{donor_number};
 
 use entry::Cause;
 
 mod below;
-mod digests;
 mod locate;
+mod pair;
 mod repairing;
 mod searching;
 
 pub use repairing::{repair, repair_place};
 pub use searching::search;
 
-// Which log a refusal speaks of.
-#[derive(Clone, Copy)]
+// Which log a refusal speaks of, by its number.
+#[derive(Clone, Copy, PartialEq, Eq, Debug)]
 pub enum Side {
-    First,
-    Second,
-    Both,
+    First = 1,
+    Second = 2,
+    Both = 3,
 }
 
 impl Side {
-    // Its number.
-    pub fn number(self) -> u32
-        ensures { result ≡ side_number self }
+    // The refusal that speaks of this log.
+    pub(crate) fn refusal(self, cause: Cause) -> SearchRefusal
+        ensures { result ≡ record { side = self; cause = cause } }
     {
-        match self {
-            Side::First => 1,
-            Side::Second => 2,
-            Side::Both => 3,
-        }
+        SearchRefusal { side: self, cause }
     }
 }
 
+impl From<Side> for u32 {
+    ghost from_gives = { λ side number. number ≡ side_number side };
+
+    fn from(side: Side) -> u32 {
+        side as u32
+    }
+}
+
+// Why the search refuses, and of which log it speaks.
+#[derive(Clone, Copy, PartialEq, Eq, Debug)]
+pub struct SearchRefusal {
+    pub side: Side,
+    pub cause: Cause,
+}
+
 // How two logs compare; the place of difference is the index of a value.
-#[derive(Clone, Copy)]
+#[derive(Clone, Copy, PartialEq, Eq, Debug)]
 pub enum Verdict {
     Same,
     FirstShorter,
@@ -51,7 +63,7 @@ pub enum Verdict {
 }
 
 impl Verdict {
-    // Its number.
+    // Its number. A variant with a place has no discriminant to cast.
     pub fn number(self) -> u32
         ensures { result ≡ verdict_number (verdict_of self) }
     {
@@ -63,36 +75,46 @@ impl Verdict {
         }
     }
 
-    // The place of difference, 0 where there is none.
-    pub fn place(self) -> usize
-        ensures { result ≡ difference_place (verdict_of self) }
+    // The place of difference.
+    pub fn place(self) -> Option<usize>
+        ensures place { result ≡ difference (verdict_of self) }
+        ensures number { unwrap_or result 0 ≡ difference_place (verdict_of self) }
     {
         match self {
-            Verdict::DifferAt(index) => index,
-            Verdict::Same => 0,
-            Verdict::FirstShorter => 0,
-            Verdict::SecondShorter => 0,
+            Verdict::DifferAt(index) => Some(index),
+            _ => None,
         }
     }
 }
 
 // The values in common, the verdict, and the entries read in each log.
-#[derive(Clone, Copy)]
-pub enum SearchAnswer {
-    Answered {
-        common: usize,
-        verdict: Verdict,
-        first_reads: usize,
-        second_reads: usize,
-    },
-    Refused(Side, Cause),
+#[derive(Clone, Copy, PartialEq, Eq, Debug)]
+pub struct SearchAnswer {
+    pub common: usize,
+    pub verdict: Verdict,
+    pub first_reads: usize,
+    pub second_reads: usize,
 }
 
-// A part of the donor up to its end: of the first log (1) or of the second (2). Where the search
-// refuses there is no donor (0), and the part is empty at 0.
-#[derive(Clone, Copy)]
+// The log that has the piece, by its number.
+#[derive(Clone, Copy, PartialEq, Eq, Debug)]
+pub enum Donor {
+    First = 1,
+    Second = 2,
+}
+
+impl From<Donor> for u32 {
+    ghost from_gives = { λ donor number. number ≡ donor_number donor };
+
+    fn from(donor: Donor) -> u32 {
+        donor as u32
+    }
+}
+
+// A part of the donor up to its end.
+#[derive(Clone, Copy, PartialEq, Eq, Debug)]
 pub struct Piece {
-    pub donor: u32,
+    pub donor: Donor,
     pub offset: usize,
     pub length: usize,
 }
@@ -108,26 +130,20 @@ pub struct Tally {
 
 // Internal: what the search finds.
 #[derive(Clone, Copy)]
-pub enum Located {
-    Found {
-        common: u32,
-        verdict: Verdict,
-        first: Tally,
-        second: Tally,
-    },
-    Refused(Side, Cause),
+pub struct Located {
+    pub common: u32,
+    pub verdict: Verdict,
+    pub first: Tally,
+    pub second: Tally,
 }
 
 // Internal: the leaf under unequal tops where the values differ, where its entries begin, and how
 // many entries were read in each log on the way.
 #[derive(Clone, Copy)]
-pub enum Down {
-    Leaf {
-        position: u32,
-        first: usize,
-        second: usize,
-        first_reads: u32,
-        second_reads: u32,
-    },
-    Refused(Side, Cause),
+pub struct Leaf {
+    pub position: u32,
+    pub first: usize,
+    pub second: usize,
+    pub first_reads: u32,
+    pub second_reads: u32,
 }

@@ -1,202 +1,173 @@
 // The search for the split of two logs: what the search answers, and where the repair piece starts.
 // All functions here are internal.
-ghost use Rattle.std.specs.Prelude.{◌≡◌, ◌+◌, ◌-◌, ◌≤◌, ◌<◌, min};
+ghost use Rattle.std.specs.Prelude.{◌≡◌, ◌+◌, ◌-◌, ◌≤◌, ◌<◌, Some, min};
 ghost use Rattle.slate.specs.Comparison.{by_length};
 ghost use Rattle.slate.specs.Digits.{max_height};
 ghost use Rattle.entry.specs.Shape.{Inside, opened_log};
 ghost use Rattle.entry.specs.Walk.{descend, walk_of};
-ghost use Rattle.entry.specs.declared.Opened.TheVariants as opened;
 ghost use Rattle.split.specs.Located.{located_at, located_of, tally, to_verdict};
-ghost use Rattle.split.specs.Search.{opening, search_from, searched};
+ghost use Rattle.split.specs.Search.{opening, search_from, searched, standing};
 
-use crate::below::down;
-use crate::digests::same_top;
-use crate::{Down, Located, Side, Tally, Verdict};
-use entry::layout::entry_len_at;
-use entry::opening::open_log;
-use entry::reborrow::reborrow;
-use entry::steps::descend;
+use crate::pair::Pair;
+use crate::{Located, SearchRefusal, Side, Tally, Verdict};
+use entry::layout::Entry;
+use entry::opening::{last_entry, open_log};
 use entry::{Cause, Opened, Walk};
 use slate::digits::MAX_HEIGHT;
-use slate::order::smaller;
+use std::cmp::Ordering;
 
 // The verdict where no value differs.
+#[tactic(auto, unfolding(slate::specs::Comparison::by_length))]
 fn by_length(m: u32, k: u32) -> Verdict
     ensures { result ≡ to_verdict (by_length m k) }
 {
-    if m == k {
-        return Verdict::Same;
+    match m.cmp(&k) {
+        Ordering::Equal => Verdict::Same,
+        Ordering::Less => Verdict::FirstShorter,
+        Ordering::Greater => Verdict::SecondShorter,
     }
-    if m < k {
-        return Verdict::FirstShorter;
-    }
-    Verdict::SecondShorter
 }
 
-// A log of `count` entries was just opened, and the last of them begins at `last`: that is one read,
-// unless the log is empty.
-fn begun(last: usize, count: u32) -> Tally
-    ensures { result ≡ tally (opening «last» count) }
+// A log was just opened and has nothing in common with the other, as one of them is empty: opening it
+// is one read, unless it is the empty one.
+fn unmoved(opened: Opened) -> Tally
+    ensures { result ≡ tally (standing (opening opened.start opened.count) 0) }
 {
-    if count == 0 {
-        return Tally {
-            count: 0,
-            reads: 0,
-            at: 0,
-        };
-    }
     Tally {
-        count: count,
-        reads: 1,
-        at: last,
+        count: opened.count,
+        reads: opened.count.min(1),
+        at: 0,
     }
 }
 
-// A log of m entries, the last of which begins at `last`, is brought to entry n. No step is taken
-// where that is the last.
-fn bring(log: &[u8], last: usize, m: u32, n: u32) -> Walk
-    requires log_value { opened_log log.now ≡ opened.Log last m }
-    requires le_n { (1 ≤ n) × (n ≤ m) }
-    ensures { result ≡ walk_of (descend log.now last (m - 1) max_height (n - 1)) }
+// A log that opens so is brought to entry n. No step is taken where that is the last.
+#[tactic(auto, unfolding(slate::specs::Digits::max_height))]
+fn bring(log: &[u8], opened: Opened, n: u32) -> Result<Walk, Cause>
+    requires opens { opened_log log.now ≡ Some opened }
+    requires le_n { (1 ≤ n) × (n ≤ opened.count) }
+    ensures { result ≡ walk_of (descend log.now opened.start (opened.count - 1) max_height (n - 1)) }
 {
-    if m == n {
-        return Walk::Arrived {
-            start: last,
+    if opened.count == n {
+        return Ok(Walk {
+            start: opened.start,
             reads: 0,
-        };
+        });
     }
-    descend(log, last, m - 1, MAX_HEIGHT, n - 1)
+    last_entry(log, opened).descend(MAX_HEIGHT, n - 1)
 }
 
 // Both logs stand at the entry at this position: equal tops, or down to the leaf of the difference.
-fn locate_at(first: &[u8], second: &[u8], position: u32, a: Tally, b: Tally) -> Located
+#[tactic(auto, unfolding(slate::specs::Digits::max_height))]
+fn locate_at<'a>(
+    first: &'a [u8],
+    second: &'a [u8],
+    position: u32,
+    a: Tally,
+    b: Tally,
+) -> Result<Located, SearchRefusal>
     requires inside { Inside first.now a.at position }
     requires inside_2 { Inside second.now b.at position }
     requires reads_bound { (a.reads ≤ 1 + max_height) × (b.reads ≤ 1 + max_height) }
     ensures { result ≡ located_at first.now second.now position a b }
 {
-    if same_top(first, second, a.at, b.at, position, MAX_HEIGHT) {
-        let first_length = entry_len_at(first, a.at, position);
-        let second_length = entry_len_at(second, b.at, position);
-        return Located::Found {
+    let pair = Pair {
+        first: Entry {
+            log: first,
+            start: a.at,
+            position,
+        },
+        second: Entry {
+            log: second,
+            start: b.at,
+            position,
+        },
+    };
+    if pair.same_top(MAX_HEIGHT) {
+        return Ok(Located {
             common: position + 1,
             verdict: by_length(a.count, b.count),
             first: Tally {
-                count: a.count,
-                reads: a.reads,
-                at: a.at + first_length,
+                at: a.at + pair.first.len(),
+                ..a
             },
             second: Tally {
-                count: b.count,
-                reads: b.reads,
-                at: b.at + second_length,
+                at: b.at + pair.second.len(),
+                ..b
             },
-        };
+        });
     }
     if position == 0 {
-        return Located::Found {
+        return Ok(Located {
             common: 0,
             verdict: Verdict::DifferAt(1),
             first: a,
             second: b,
-        };
+        });
     }
-    match down(first, second, a.at, b.at, position, MAX_HEIGHT) {
-        Down::Refused(side, cause) => Located::Refused(side, cause),
-        Down::Leaf {
-            position: leaf,
-            first: first_leaf,
-            second: second_leaf,
-            first_reads,
-            second_reads,
-        } => Located::Found {
-            common: leaf,
-            verdict: Verdict::DifferAt(leaf as usize + 1),
-            first: Tally {
-                count: a.count,
-                reads: a.reads + first_reads,
-                at: first_leaf,
-            },
-            second: Tally {
-                count: b.count,
-                reads: b.reads + second_reads,
-                at: second_leaf,
-            },
+    let leaf = pair.down(MAX_HEIGHT)?;
+    Ok(Located {
+        common: leaf.position,
+        verdict: Verdict::DifferAt(leaf.position as usize + 1),
+        first: Tally {
+            reads: a.reads + leaf.first_reads,
+            at: leaf.first,
+            ..a
         },
-    }
+        second: Tally {
+            reads: b.reads + leaf.second_reads,
+            at: leaf.second,
+            ..b
+        },
+    })
 }
 
-// Both logs are open and not empty, each read once: the first is brought to entry n, then the second.
-fn locate_from(first: &[u8], second: &[u8], a: Tally, b: Tally) -> Located
-    requires first_value { (opened_log first.now ≡ opened.Log a.at a.count) × (0 < a.count) × (a.reads ≡ 1) }
-    requires second_value { (opened_log second.now ≡ opened.Log b.at b.count) × (0 < b.count) × (b.reads ≡ 1) }
-    ensures { result ≡ located_of (search_from first.now second.now (min a.count b.count) (opening a.at a.count) (opening b.at b.count)) }
+// Both logs are open and not empty, which is one read in each: the first is brought to entry n, then
+// the second.
+#[tactic(auto, unfolding(slate::specs::Digits::max_height))]
+fn locate_from(first: &[u8], second: &[u8], a: Opened, b: Opened) -> Result<Located, SearchRefusal>
+    requires first_opens { opened_log first.now ≡ Some a }
+    requires second_opens { opened_log second.now ≡ Some b }
+    requires some { 0 < min a.count b.count }
+    ensures { result ≡ located_of (search_from first.now second.now (min a.count b.count) (opening a.start a.count) (opening b.start b.count)) }
 {
-    let n = smaller(a.count, b.count);
-    match bring(first, a.at, a.count, n) {
-        Walk::Refused(cause) => Located::Refused(Side::First, cause),
-        Walk::Arrived {
-            start: first_at,
-            reads: first_steps,
-        } => match bring(second, b.at, b.count, n) {
-            Walk::Refused(cause) => Located::Refused(Side::Second, cause),
-            Walk::Arrived {
-                start: second_at,
-                reads: second_steps,
-            } => locate_at(
-                first,
-                second,
-                n - 1,
-                Tally {
-                    count: a.count,
-                    reads: a.reads + first_steps,
-                    at: first_at,
-                },
-                Tally {
-                    count: b.count,
-                    reads: b.reads + second_steps,
-                    at: second_at,
-                },
-            ),
+    let n = a.count.min(b.count);
+    let to_first = bring(first, a, n).map_err(|cause| Side::First.refusal(cause))?;
+    let to_second = bring(second, b, n).map_err(|cause| Side::Second.refusal(cause))?;
+    locate_at(
+        first,
+        second,
+        n - 1,
+        Tally {
+            count: a.count,
+            reads: 1 + to_first.reads,
+            at: to_first.start,
         },
-    }
+        Tally {
+            count: b.count,
+            reads: 1 + to_second.reads,
+            at: to_second.start,
+        },
+    )
 }
 
 // Both logs are opened, the first before the second.
-pub fn locate(first: &[u8], second: &[u8]) -> Located
+#[tactic(auto, unfolding(crate::specs::Search::searched))]
+pub fn locate(first: &[u8], second: &[u8]) -> Result<Located, SearchRefusal>
     ensures { result ≡ located_of (searched first.now second.now) }
 {
-    let Opened::Log {
-        start: first_last,
-        count: m,
-    } = open_log(reborrow(first))
-    else {
-        return Located::Refused(Side::First, Cause::Shape);
+    let Some(a) = open_log(first) else {
+        return Err(Side::First.refusal(Cause::Shape));
     };
-    let a = begun(first_last, m);
-    let Opened::Log {
-        start: second_last,
-        count: k,
-    } = open_log(reborrow(second))
-    else {
-        return Located::Refused(Side::Second, Cause::Shape);
+    let Some(b) = open_log(second) else {
+        return Err(Side::Second.refusal(Cause::Shape));
     };
-    let b = begun(second_last, k);
-    if smaller(a.count, b.count) == 0 {
-        return Located::Found {
+    if a.count.min(b.count) == 0 {
+        return Ok(Located {
             common: 0,
             verdict: by_length(a.count, b.count),
-            first: Tally {
-                count: a.count,
-                reads: a.reads,
-                at: 0,
-            },
-            second: Tally {
-                count: b.count,
-                reads: b.reads,
-                at: 0,
-            },
-        };
+            first: unmoved(a),
+            second: unmoved(b),
+        });
     }
-    locate_from(reborrow(first), reborrow(second), a, b)
+    locate_from(first, second, a, b)
 }

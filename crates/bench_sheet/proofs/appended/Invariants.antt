@@ -1,6 +1,6 @@
 -- What is used is a number of the buffer's bytes.
 use Rattle.std.proofs.Common.{◌≡◌, length}
-use Rattle.bench_sheet.specs.Counts.{IsPrefixLen}
+use Rattle.input.specs.Counts.{IsPrefixLen}
 use Rattle.bench_sheet.proofs.appended.Given as goal
 
 abbrev pub invariant-loop-i : goal.invariant-loop-i

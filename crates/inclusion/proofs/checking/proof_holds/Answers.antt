@@ -49,11 +49,11 @@ leaf_digest-requires c =
     let s = item_size _ (sym c.is_item.ensures ∙ c.if-not-is_item.false) in
     (omega arith, omega arith)
 
-pub fold-digest-requires : goal.fold-digest-requires
+pub fold-digest-requires-clause-le_i : goal.fold-digest-requires-clause-le_i
 unfolding max_height
-fold-digest-requires c =
+fold-digest-requires-clause-le_i c =
     let r = range c.is_index.ensures c.if-not-is_index.false in
-    record { le_i = (r.0, r.1, c.if-count.false); i_in_bounds = omega (arith, c.hops.ensures) }
+    (r.0, r.1, c.if-count.false)
 
 pub returns : goal.returns
 unfolding max_height

@@ -30,34 +30,24 @@ pub returns-then-new-ne32 : goal.returns-then-new-ne32
 unfolding consistency_tests
 returns-then-new-ne32 c = not_consistent _ _ _ _ _ 3 (ne_eqb _ _ c.if-new-ne32.true)
 
-pub overflow_cast-fewer : goal.overflow_cast-fewer
+pub overflow_cast-growth : goal.overflow_cast-growth
 unfolding max_height
-overflow_cast-fewer c = omega (arith, range (goal.at.overflow_cast-fewer c).Else-n)
+overflow_cast-growth c = omega (arith, range (goal.at.overflow_cast-growth c).Else-n)
 
-pub digest_count-requires : goal.digest_count-requires
-digest_count-requires c = range (goal.at.digest_count-requires c).Else-n
-
-pub overflow_mul-digest_count : goal.overflow_mul-digest_count
-unfolding max_height
-overflow_mul-digest_count c = omega arith
+pub invariant_of-growth : goal.invariant_of-growth
+invariant_of-growth c = record { sizes = range (goal.at.invariant_of-growth c).Else-n }
 
 pub returns-then-proof-digest_count : goal.returns-then-proof-digest_count
 unfolding consistency_tests
 returns-then-proof-digest_count c = not_consistent _ _ _ _ _ 4 (ne_eqb _ _ (λ e. omega arith))
 
-pub roots_of-roots-requires : goal.roots_of-roots-requires
-roots_of-roots-requires c = record {
-  le_m = range (goal.at.roots_of-roots-requires c).Else-n;
-  proof_len = (omega arith, c.if-old-ne32.false);
-}
-
-pub returns-then-not-same_bytes : goal.returns-then-not-same_bytes
-returns-then-not-same_bytes c =
-    old_other _ _ _ _ _ _ _ c.roots_of-roots.ensures.result_value c.same_bytes.ensures c.if-not-same_bytes.true
-
-pub returns : goal.returns
-returns c =
-    let few = (range (goal.at.returns c).Else-n).2 in
+pub returns-then-same_bytes : goal.returns-then-same_bytes
+returns-then-same_bytes c =
+    let few = (range (goal.at.returns-then-same_bytes c).Else-n).2 in
     new_decides _ _ _ _ _ (sym c.is_index.ensures ∙ c.if-not-is_index.false) few c.if-old-ne32.false c.if-new-ne32.false
     (omega arith) _ _ _ _ c.roots_of-roots.ensures.result_value c.roots_of-roots.ensures.result_after c.same_bytes.ensures
-    c.if-not-same_bytes.false c.same_bytes-2.ensures
+    c.if-same_bytes.true c.same_bytes-then-same_bytes.ensures
+
+pub returns-else-same_bytes : goal.returns-else-same_bytes
+returns-else-same_bytes c =
+    c.if-same_bytes.false ∙ old_other _ _ _ _ _ _ _ c.roots_of-roots.ensures.result_value c.same_bytes.ensures c.if-same_bytes.false

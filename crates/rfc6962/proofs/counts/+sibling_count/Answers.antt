@@ -3,7 +3,6 @@
 use mathlib.Core.Path.{◌≡◌, sym}
 use Prim.Native.Nat.{ℕ, ◌^◌, ◌≤◌}
 use native.Mathlib.Omega.{arith}
-use Rattle.slate.specs.Digits.{max_height}
 use Rattle.rfc6962.proofs.CountForms.{counted_left, counted_right}
 use Rattle.rfc6962.proofs.SiblingCounts.{count_end}
 use Rattle.rfc6962.proofs.SplitForms.{Fewer, fewer_limit, fewer_next, left_range, right_range}
@@ -27,10 +26,6 @@ sibling_count-requires t c =
     let w = fewer c.requires.le_m c.if-m-n.false in
     (omega (arith, fewer_next w), (omega arith, left_range w _ c.split_size-size.ensures c.if-m-size.true))
 
-pub overflow_add-result : goal.overflow_add-result
-unfolding max_height
-overflow_add-result t c = omega arith
-
 pub returns-then-m-size : goal.returns-then-m-size
 returns-then-m-size t c =
     let it = counted_left (fewer c.requires.le_m c.if-m-n.false) _ c.split_size-size.ensures _ c.if-m-size.true (c.sibling_count.ensures.value, c.sibling_count.ensures.upper_bound) in
@@ -39,20 +34,10 @@ returns-then-m-size t c =
 pub overflow_sub-height-2 : goal.overflow_sub-height-2
 overflow_sub-height-2 t c = omega (arith, fewer_next (fewer c.requires.le_m c.if-m-n.false))
 
-pub overflow_sub-m : goal.overflow_sub-m
-overflow_sub-m t c = omega arith
-
-pub overflow_sub-n : goal.overflow_sub-n
-overflow_sub-n t c = omega arith
-
 pub sibling_count-requires-2 : goal.sibling_count-requires-2
 sibling_count-requires-2 t c =
     let w = fewer c.requires.le_m c.if-m-n.false in
     (omega (arith, fewer_next w), (omega arith, right_range w _ c.split_size-size.ensures c.if-m-size.false))
-
-pub overflow_add-result-2 : goal.overflow_add-result-2
-unfolding max_height
-overflow_add-result-2 t c = omega arith
 
 pub returns : goal.returns
 returns t c =

@@ -1,14 +1,11 @@
--- The sixteen words, written out as the code has them.
+-- Each word is one of the message.
 -- Assumes nothing.
-use Rattle.std.proofs.Common.{sym, refl, ◌∙◌}
-use Rattle.sha256.proofs.Words.{◌∷≡◌, sixteen_words}
+use Rattle.std.proofs.Common.{rules}
+use Rattle.sha256.proofs.Words.{words_are}
 use Rattle.sha256.proofs.message.whole.Goals as goal
 
 pub returns : goal.returns
 returns c =
     let a = c.args in
-    (c.word.ensures ∷≡ c.word-2.ensures ∷≡ c.word-3.ensures ∷≡ c.word-4.ensures
-    ∷≡ c.word-5.ensures ∷≡ c.word-6.ensures ∷≡ c.word-7.ensures ∷≡ c.word-8.ensures
-    ∷≡ c.word-9.ensures ∷≡ c.word-10.ensures ∷≡ c.word-11.ensures ∷≡ c.word-12.ensures
-    ∷≡ c.word-13.ensures ∷≡ c.word-14.ensures ∷≡ c.word-15.ensures ∷≡ c.word-16.ensures ∷≡ refl)
-    ∙ sym (sixteen_words a.m.now a.at)
+    let words = c.sixteen.ensures in
+    words_are 16 a.m.now a.at _ words.long (λ u below. let called = words.each u below in search rules)

@@ -1,6 +1,6 @@
 -- The sixteen words, written out as the code has them.
 -- Assumes nothing.
-use Rattle.std.proofs.Common.{◌∷◌, ◌++◌, sym, refl, ◌∙◌, arith}
+use Rattle.std.proofs.Common.{◌∷◌, ◌++◌, ◌≡◌, length, sym, refl, ◌∙◌, arith, rules}
 use Rattle.sha256.proofs.Nodes.{node_first, node_head, node_middle, node_second, node_whole}
 use Rattle.sha256.proofs.Words.{◌∷≡◌, sixteen_words}
 use Rattle.sha256.proofs.node.first_block.Goals as goal
@@ -9,8 +9,8 @@ pub returns : goal.returns
 returns c =
     let a = c.args in
     let t = a.tag in let x = a.first.now in let y = a.second.now in
-    let r = c.requires in
-    let ex = r.0 in let ey = r.1 in
+    let ex : length x ≡ 32 = search rules in
+    let ey : length y ≡ 32 = search rules in
     ((c.join.ensures ∙ node_head t x y ex ey)
     ∷≡ (c.word.ensures ∙ node_first t x y ex ey 3 (omega arith))
     ∷≡ (c.word-2.ensures ∙ node_first t x y ex ey 7 (omega arith))

@@ -1,19 +1,17 @@
--- Word t is made, and the round is the standard's for it.
+-- The round is the standard's for word t, and the constant by computation.
 -- Assumes nothing.
-use Rattle.std.proofs.Common.{ℕ, List, ap, ◌∙◌, arith}
-use Rattle.sha256.specs.Window.{made, rolled}
-use Rattle.sha256.proofs.MessageSchedule.{made_next, rolled_next}
+use Rattle.std.proofs.Common.{refl, ap, ◌∙◌, arith}
+use Rattle.sha256.specs.Fips180.{K, constants}
+use Rattle.sha256.specs.Window.{rolled_by}
 use Rattle.sha256.proofs.RoundRuns.{round_step}
 use Rattle.sha256.proofs.rounds.step.Goals as goal
 
 pub returns : goal.returns
+unfolding K constants
 returns c =
     let a = c.args in
-    let roll = c.roll.ensures in
-    λ e. record {
+    record {
       ran = λ M i block ew es.
-          let word = roll.value ∙ ap (λ (w : List ℕ). made w a.t) ew ∙ made_next M _ a.t block (omega arith) in (
-            round_step M i a.s _ a.t a.k _ e es word c.one_round.ensures,
-            roll.w_after ∙ ap (λ (w : List ℕ). rolled w a.t) ew ∙ rolled_next M _ _ a.t (omega arith) (omega arith),
-          );
+          let word = c.next_word.ensures M block ew in
+          (round_step M i a.s _ a.t _ _ refl es word.0 c.one_round.ensures, word.1 ∙ ap (rolled_by M) (omega arith));
     }

@@ -1,19 +1,19 @@
 -- Two digests are an input as they stand; else the two copies leave the tag and the parts at the start of the buffer, by the laws of
 -- Parts.antt.
 -- Assumes nothing.
-use Rattle.std.proofs.Common.{ap, ◌∙◌}
+use Rattle.std.proofs.Common.{ap, ◌∙◌, rules}
 use Rattle.sha256.specs.Answer.{tagged}
 use Rattle.sha256.specs.Fips180.{sha256}
 use Rattle.sha256.proofs.Parts.{both_front}
 use Rattle.sha256.proofs.tagged.hash_tagged.Goals as goal
 
-pub returns-then-second-eq32 : goal.returns-then-second-eq32
+pub returns-in-Ok-Ok : goal.returns-in-Ok-Ok
 unfolding tagged
-returns-then-second-eq32 c = c.input_digest.ensures
+returns-in-Ok-Ok c = search rules
 
 pub returns : goal.returns
 unfolding tagged
 returns c =
     let a = c.args in
-    c.digest.ensures
+    c.digest-2.ensures
     ∙ ap sha256 (both_front a.tag a.first.now a.second.now _ _ _ _ c.copy_from_slice.ensures.after c.copy_from_slice-2.ensures.after)

@@ -5,4 +5,4 @@ use Rattle.sha256.proofs.Bitwise.{three_rotations}
 use Rattle.sha256.proofs.word.big_sigma0.Goals as goal
 
 pub returns : goal.returns
-returns c = c.rotr-3.ensures ∙ rw (c.rotr-2.ensures, c.rotr.ensures) (three_rotations 2 11 9 (omega arith) c.ranges.x.fits)
+returns c = c.rotate_right-3.ensures ∙ rw (c.rotate_right-2.ensures, c.rotate_right.ensures) (three_rotations 2 11 9 (omega arith) c.ranges.x.fits)

@@ -8,5 +8,5 @@ use Rattle.sha256.proofs.word.sigma1.Goals as goal
 
 pub returns : goal.returns
 returns c =
-    rw (c.rotr-2.ensures, c.rotr.ensures)
+    rw (c.rotate_right-2.ensures, c.rotate_right.ensures)
     (ap (λ (r : ℕ). bit_xor r (shr 10 c.args.x)) (two_rotations 17 2 (omega arith) c.ranges.x.fits))

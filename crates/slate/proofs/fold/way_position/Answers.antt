@@ -1,17 +1,12 @@
 -- The block around the target ends inside 2 ^ max_height positions, so that no sum wraps.
 -- Assumes nothing.
-use mathlib.Core.Path.{◌∙◌}
 use Prim.Native.Nat.{◌≤◌}
 use native.Mathlib.Omega.{arith}
-use lib.Pow.{pow_mono, pow_pos}
+use lib.Pow.{pow_mono}
 use Rattle.slate.specs.Digits.{max_height}
 use Rattle.slate.proofs.Bits.{base_le}
 use Rattle.slate.proofs.CodeForms.{shifted_one}
 use Rattle.slate.proofs.fold.way_position.Goals as goal
-
-pub overflow_sub-h : goal.overflow_sub-h
-unfolding max_height
-overflow_sub-h c = let h = c.args.h in rw (shifted_one h (omega arith)) (pow_pos h)
 
 pub overflow_add-base : goal.overflow_add-base
 unfolding max_height
@@ -19,8 +14,3 @@ overflow_add-base c =
     let a = c.args in
     let short : a.h ≤ max_height = omega arith in
     rw (shifted_one a.h (omega arith)) (omega (arith, c.base.ensures, base_le a.target a.h, pow_mono short))
-
-pub returns : goal.returns
-unfolding max_height
-returns c =
-    c.smaller.ensures ∙ rw (shifted_one c.args.h (omega arith), c.base.ensures)

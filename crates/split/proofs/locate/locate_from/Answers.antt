@@ -1,67 +1,64 @@
 -- A walk in each log that arrives or is refused, by the laws of LocateForms.antt.
 -- Assumes nothing.
-use Rattle.std.proofs.Common.{◌≡◌, ℕ, ◌<◌, min, List, arith}
+use Rattle.std.proofs.Common.{Ok, Some, rules, ◌≡◌, ℕ, ◌<◌, min, List, arith}
 use Rattle.slate.specs.Digits.{max_height}
 use Rattle.entry.specs.Shape.{opened_log}
-use Rattle.entry.specs.declared.Opened.TheVariants as opened
+use Rattle.entry.specs.declared.Opened.{Opened}
 use Rattle.entry.proofs.Reached.{Indexed, walk_reached}
 use Rattle.entry.proofs.StepForms.{reads_le}
-use Rattle.split.proofs.LocateForms.{both_arrived, first_stopped, second_stopped}
+use Rattle.split.proofs.LocateForms.{both_arrived, second_stopped}
 use Rattle.split.proofs.locate.locate_from.Goals as goal
 
--- n is at least 1, and each log has an entry of that index
-both_indexed : (b d : List ℕ) (o q m k i j n : ℕ) → (opened_log b ≡ opened.Log o m) × (0 < m) × (i ≡ 1)
-    → (opened_log d ≡ opened.Log q k) × (0 < k) × (j ≡ 1) → n ≡ min m k → Indexed b o m n × Indexed d q k n
-both_indexed b d o q m k i j n first second is = (
-  record { opens = first.0; first = omega arith; high = omega arith },
-  record { opens = second.0; first = omega arith; high = omega arith },
+-- each log has an entry of the smaller index
+both_indexed : (b d : List ℕ) (o q : Opened) (n : ℕ) → opened_log b ≡ Some o → opened_log d ≡ Some q → 0 < min o.count q.count
+    → n ≡ min o.count q.count → Indexed b o.start o.count n × Indexed d q.start q.count n
+both_indexed b d o q n first second some is = (
+  record { opens = first; first = omega arith; high = omega arith },
+  record { opens = second; first = omega arith; high = omega arith },
 )
 
-pub bring-requires : goal.bring-requires
-bring-requires c =
-    let i = both_indexed _ _ _ _ _ _ _ _ _ c.requires.first_value c.requires.second_value c.smaller-n.ensures in
-    record { log_value = i.0.opens; le_n = (i.0.first, i.0.high) }
-
-pub bring-requires-in-Arrived : goal.bring-requires-in-Arrived
-bring-requires-in-Arrived c =
-    let i = both_indexed _ _ _ _ _ _ _ _ _ c.requires.first_value c.requires.second_value c.smaller-n.ensures in
-    record { log_value = i.1.opens; le_n = (i.1.first, i.1.high) }
+pub returns-in_err-to_second : goal.returns-in_err-to_second
+returns-in_err-to_second c =
+    let e : c.bring.result ≡ Ok c.in_ok-to_first.to_first = search rules in
+    let i = both_indexed _ _ _ _ _ c.requires.first_opens c.requires.second_opens c.requires.some c.min-n.ensures in
+    let s =
+    second_stopped _ _ _ _ _ _ _ i.0 i.1 c.min-n.ensures _ c.bring.ensures _ _ e _ c.bring-2.ensures in
+    search rules
 
 -- one read before, and at most one for each height
-pub overflow_add-a : goal.overflow_add-a
+pub overflow_add-to_first : goal.overflow_add-to_first
 unfolding max_height
-overflow_add-a c =
-    omega (arith, reads_le _ _ _ _ _ _ _ _ c.bring.ensures c.in-Arrived.is, c.requires.first_value.2)
+overflow_add-to_first c =
+    let e : c.bring.result ≡ Ok c.in_ok-to_first.to_first = search rules in
+    omega (arith, reads_le _ _ _ _ _ _ _ _ c.bring.ensures e)
 
-pub overflow_add-b : goal.overflow_add-b
+pub overflow_add-to_second : goal.overflow_add-to_second
 unfolding max_height
-overflow_add-b c =
-    omega (arith, reads_le _ _ _ _ _ _ _ _ c.bring-in-Arrived.ensures c.in-Arrived-bring.is, c.requires.second_value.2)
+overflow_add-to_second c =
+    let e : c.bring-2.result ≡ Ok c.in_ok-to_second.to_second = search rules in
+    omega (arith, reads_le _ _ _ _ _ _ _ _ c.bring-2.ensures e)
 
-pub locate_at-requires : goal.locate_at-requires
-locate_at-requires c =
-    let i = both_indexed _ _ _ _ _ _ _ _ _ c.requires.first_value c.requires.second_value c.smaller-n.ensures in
-    let few = reads_le _ _ _ _ _ _ _ _ c.bring.ensures c.in-Arrived.is in
-    let few_2 = reads_le _ _ _ _ _ _ _ _ c.bring-in-Arrived.ensures c.in-Arrived-bring.is in
-    record {
-      inside = (walk_reached i.0 _ c.bring.ensures _ _ c.in-Arrived.is).inside;
-      inside_2 = (walk_reached i.1 _ c.bring-in-Arrived.ensures _ _ c.in-Arrived-bring.is).inside;
-      reads_bound = (omega (arith, few, c.requires.first_value.2), omega (arith, few_2, c.requires.second_value.2));
-    }
+pub locate_at-requires-clause-inside : goal.locate_at-requires-clause-inside
+locate_at-requires-clause-inside c =
+    let e : c.bring.result ≡ Ok c.in_ok-to_first.to_first = search rules in
+    let i = both_indexed _ _ _ _ _ c.requires.first_opens c.requires.second_opens c.requires.some c.min-n.ensures in
+    (walk_reached i.0 _ c.bring.ensures _ _ e).inside
 
-pub returns-in-Refused : goal.returns-in-Refused
-returns-in-Refused c =
-    let i = both_indexed _ _ _ _ _ _ _ _ _ c.requires.first_value c.requires.second_value c.smaller-n.ensures in
-    first_stopped _ _ _ _ _ _ _ i.0 i.1 c.smaller-n.ensures _ c.bring.ensures _ c.in-Refused.is
+pub locate_at-requires-clause-inside_2 : goal.locate_at-requires-clause-inside_2
+locate_at-requires-clause-inside_2 c =
+    let e : c.bring-2.result ≡ Ok c.in_ok-to_second.to_second = search rules in
+    let i = both_indexed _ _ _ _ _ c.requires.first_opens c.requires.second_opens c.requires.some c.min-n.ensures in
+    (walk_reached i.1 _ c.bring-2.ensures _ _ e).inside
 
-pub returns-in-Refused-bring : goal.returns-in-Refused-bring
-returns-in-Refused-bring c =
-    let i = both_indexed _ _ _ _ _ _ _ _ _ c.requires.first_value c.requires.second_value c.smaller-n.ensures in
-    second_stopped _ _ _ _ _ _ _ i.0 i.1 c.smaller-n.ensures _ c.bring.ensures _ _ c.in-Arrived.is _ c.bring-in-Arrived.ensures _
-    c.in-Refused-bring.is
+pub locate_at-requires-clause-reads_bound : goal.locate_at-requires-clause-reads_bound
+locate_at-requires-clause-reads_bound c =
+    let e : c.bring.result ≡ Ok c.in_ok-to_first.to_first = search rules in
+    let f : c.bring-2.result ≡ Ok c.in_ok-to_second.to_second = search rules in
+    (omega (arith, reads_le _ _ _ _ _ _ _ _ c.bring.ensures e), omega (arith, reads_le _ _ _ _ _ _ _ _ c.bring-2.ensures f))
 
-pub returns-in-Arrived-bring : goal.returns-in-Arrived-bring
-returns-in-Arrived-bring c =
-    let i = both_indexed _ _ _ _ _ _ _ _ _ c.requires.first_value c.requires.second_value c.smaller-n.ensures in
-    both_arrived _ _ _ _ _ _ _ i.0 i.1 c.smaller-n.ensures _ c.bring.ensures _ _ c.in-Arrived.is _ c.bring-in-Arrived.ensures _ _
-    c.requires.first_value.2 c.requires.second_value.2 _ _ c.in-Arrived-bring.is _ c.locate_at.ensures
+pub returns : goal.returns
+returns c =
+    let e : c.bring.result ≡ Ok c.in_ok-to_first.to_first = search rules in
+    let f : c.bring-2.result ≡ Ok c.in_ok-to_second.to_second = search rules in
+    let i = both_indexed _ _ _ _ _ c.requires.first_opens c.requires.second_opens c.requires.some c.min-n.ensures in
+    both_arrived _ _ _ _ _ _ _ i.0 i.1 c.min-n.ensures _ c.bring.ensures _ _ e _ c.bring-2.ensures _ _ f _ c.locate_at.ensures

@@ -1,6 +1,0 @@
--- The height falls.
--- Assumes nothing.
-use Rattle.split.proofs.below.+down.Given as goal
-
-abbrev pub decreases-down : goal.decreases-down
-decreases-down l = l.height
