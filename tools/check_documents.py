@@ -65,7 +65,7 @@ def check_links(document):
 
 def check_other_names(document, cell):
     """A name that stands behind no CRATE/FILE is a function of the code, a law, or one that the toolchain supplies."""
-    known = {name for _, _, name in definitions(cell)} | {"requires", "wrapping_add_u32"}
+    known = {name for _, _, name in definitions(cell)} | {"requires"}
     for name in set(re.findall(r"`([\w-]+)`", cell)) - known:
         if not re.search(r"\bfn %s\b" % re.escape(name), text_of("*/src/*.rt")) and not is_declared(name, text_of("*/proofs/*.antt")):
             problem(document, "no function and no law " + name)

@@ -1,4 +1,5 @@
--- A text in a buffer, from a place on.
+-- A text in a buffer, from a place on. No function promises it now: a report is a text that its Display writes, and the claim `PutFirst`
+-- is over this.
 use Rattle.std.specs.Prelude.{List, ◌≡◌, ℕ, ◌+◌, length}
 use Rattle.entry.specs.Write.{write_at}
 

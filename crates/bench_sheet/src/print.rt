@@ -8,7 +8,7 @@ use slate::moves::{hops, lefts};
 use std::io;
 
 pub fn print_kind(rt: &impl Print, kind: Kind) -> io::Result<()> {
-    let byte = kind.byte();
+    let byte = u8::from(kind);
     let body = kind.body_len();
     println!(rt; "kind {byte}: body {body}")
 }
@@ -37,7 +37,7 @@ fn print_refusal(rt: &impl Print, text: &str, cause: Cause) -> io::Result<()> {
     println!(rt; "{text}: refused {number}")
 }
 
-// Internal: i is at least 1.
+// Internal: i is at least 1. Plain numbers, as in slate::moves.
 pub fn print_moves(rt: &impl Print, n: u32, i: u32) -> io::Result<()>
     requires { 1 ≤ i }
 {

@@ -1,5 +1,5 @@
 -- What is claimed of the calls of this crate, in document 01's terms: each claim is a type, and proofs/ has its proof.
-use Rattle.std.specs.Prelude.{true, List, [], ◌∷◌, ◌++◌, ◌⊎◌, ◌≡◌, ℕ, ◌+◌, ◌*◌, ◌-◌, ◌^◌, ◌≤◌, ◌<◌, length, get_or, drop}
+use Rattle.std.specs.Prelude.{true, List, [], ◌∷◌, ◌++◌, ◌⊎◌, ◌≡◌, ℕ, ◌+◌, ◌*◌, ◌-◌, ◌^◌, ◌≤◌, ◌<◌, Result, length, get_or, drop}
 use Rattle.sha256.specs.Reasons.{Decided, Reason}
 use Rattle.slate.specs.Digits.{max_height}
 use Rattle.slate.specs.Length.{offset}
@@ -12,13 +12,15 @@ use Rattle.entry.specs.Read.{payload_at, payload_len_at}
 use Rattle.entry.specs.Reasons.{Opens, Unopened}
 use Rattle.entry.specs.Shape.{opened_log}
 use Rattle.entry.specs.Siblings.{siblings}
+use Rattle.entry.specs.declared.Cause.{Cause}
 use Rattle.entry.specs.declared.Cause.TheVariants as cause
 use Rattle.entry.specs.Opening.{opening_at}
 use Rattle.ringlog.specs.Answer.{after, answer, counted, written}
 use Rattle.ringlog.specs.Reasons.{Fails, Reaches, refuses}
 use Rattle.inclusion.specs.Check.{proof_holds}
 use Rattle.inclusion.specs.Prove.{proof_of}
-use Rattle.inclusion.specs.Value.{PartAnswer, checked_value, item_part, no_part, part_of}
+use Rattle.inclusion.specs.Value.{PartAnswer, checked_value, item_part, no_part, part_answer_of, part_of}
+use Rattle.inclusion.specs.declared.Part.{Part}
 
 -- ---- proof check
 
@@ -90,6 +92,10 @@ ValueDecided =
     ∷ [])
     (λ a. Reaches b i (λ o n l. a ≡ record { number = 0; offset = l + 5; length = payload_len_at b l }))
     (checked_value b r i)
+
+-- a value's number and part tell its case, so that the promise decides the answer
+abbrev pub OnePart : Type 0
+OnePart = (r s : Result Part Cause) → part_answer_of r ≡ part_answer_of s → r ≡ s
 
 -- a refused value is the empty part
 abbrev pub ValueRefused : Type 0

@@ -14,7 +14,8 @@ use slate::moves::hops;
 use slate::rule::Rule;
 
 // Whether the item is the value of this index among `count` values whose tree, by this prefix rule,
-// has this root: all is in range, and it folds with the proof to the root.
+// has this root: all is in range, and it folds with the proof to the root. The parameters are those of the
+// exported checks.
 pub fn proof_holds(
     rule: Rule,
     count: usize,
@@ -46,7 +47,7 @@ pub fn proof_holds(
     same_bytes(&digest, root)
 }
 
-// The same by document 01's rule.
+// The same by document 01's rule: an exported call for each rule, as check_path of rfc6962 is.
 pub fn check_proof(count: usize, index: usize, item: &[u8], proof: &[u8], root: &[u8]) -> bool
     ensures { result ≡ proof_holds slate count index item.now proof.now root.now }
 {

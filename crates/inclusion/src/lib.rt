@@ -14,7 +14,7 @@ pub use checking::{check_proof, proof_holds};
 pub use proving::proof;
 pub use values::{value, value_place};
 
-// A part of the lent log.
+// A part of the lent log: in numbers, since a function of C can return no part of a log.
 #[derive(Clone, Copy, PartialEq, Eq, Debug)]
 pub struct Part {
     pub offset: usize,

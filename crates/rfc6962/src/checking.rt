@@ -14,7 +14,8 @@ use slate::index::is_index;
 use slate::rule::Rule;
 
 // Whether the item is the value of this index among `count` values whose tree has this root: all is
-// in range, and it folds with the path to the root.
+// in range, and it folds with the path to the root. An exported call for this rule, as check_proof of
+// inclusion is for document 01's.
 pub fn check_path(count: usize, index: usize, item: &[u8], path: &[u8], root: &[u8]) -> bool
     ensures { result ≡ proof_holds rfc6962 count index item.now path.now root.now }
 {
@@ -78,6 +79,7 @@ impl Growth {
         ensures result_value { result.old ≡ old_root rfc6962 self.old self.new proof.now old.now }
         ensures result_after { result.new ≡ new_root rfc6962 self.old self.new proof.now old.now }
     {
+        // Copied into zeros, as in entry::layout.
         let mut digest = [0u8; 32];
         if self.is_omitted() {
             digest.copy_from_slice(old);

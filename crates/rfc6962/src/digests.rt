@@ -11,7 +11,8 @@ use crate::whole::WholeEntry;
 use entry::put::put_bytes;
 use slate::digits::{base, digit};
 
-// The positions from `first` to `target`: none, where `first` is behind the target.
+// The positions from `first` to `target`: none, where `first` is behind the target. It is no range of std,
+// since the target also tells which child comes first, where there are no positions too.
 #[derive(Clone, Copy)]
 pub struct Positions {
     pub first: u32,
@@ -33,8 +34,9 @@ impl Positions {
 impl WholeEntry<'_> {
     // The digests of the subtrees outside these positions, under its highest node of height at most
     // `height`: of two children the side of the target first, from `at` on. The first of them is left
-    // out where `omit` is true; each subtree has one then, since there is no such position. Answers
-    // where they end.
+    // out where `omit` is true; each subtree has one then, since there is no such position. That is not
+    // in the span: behind the first child it is false with the same span. Answers where they end. The
+    // place goes with the whole buffer, as in entry::put.
     #[tactic(auto, unfolding(slate::specs::Digits::max_height))]
     pub fn put_digests(
         &self,

@@ -1,4 +1,4 @@
-// The program ringaudit once more, to be run on an input that is too long.
+// The program ringaudit once more, to be run on an input that is too long: a crate is run on one input.
 #![tactic(auto)]
 
 use std::io;

@@ -1,7 +1,8 @@
 // The C interface, libringlog_c.a: the calls for users as functions of C. include/ringlog.h documents
 // it for them.
 //
-// A call returns a struct by value, so a refused call writes nothing that it was lent.
+// A call returns a struct by value, so a refused call writes nothing that it was lent. An exported function
+// can return no enum, so that a struct holds numbers, 0 where nothing is refused or found.
 // specs/Wire.antt says what each struct holds.
 #![tactic(auto)]
 
@@ -114,7 +115,7 @@ impl From<Audited> for ExtentWire {
     }
 }
 
-// A message that is too long is refused with 1.
+// A message that is too long is refused with 1. Apart from that of a root, since this refusal is no Cause.
 impl From<Result<[u8; 32], TooLong>> for DigestWire {
     ghost from_gives = { λ answer wire. wire ≡ digest_wire (hashed_of answer) };
 
@@ -173,7 +174,7 @@ impl From<Result<SearchAnswer, SearchRefusal>> for SplitWire {
                 number: 0,
                 side: 0,
                 common: found.common as u64,
-                verdict: found.verdict.number(),
+                verdict: u32::from(found.verdict),
                 place: found.verdict.place().unwrap_or(0) as u64,
                 first_reads: found.first_reads as u64,
                 second_reads: found.second_reads as u64,

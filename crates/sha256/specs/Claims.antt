@@ -1,9 +1,10 @@
 -- What is claimed of the definition of SHA-256: each claim is a type, and proofs/ has its proof.
-use Rattle.std.specs.Prelude.{◌≡◌, ℕ, ◌+◌, ◌-◌, ◌*◌, ◌/◌, ◌%◌, ◌^◌, ◌<◌, ◌≤◌, List, [], ◌∷◌, ◌++◌, length, replicate, slice_index}
-use Rattle.sha256.specs.Answer.{hashed, tagged}
+use Rattle.std.specs.Prelude.{◌≡◌, ℕ, ◌+◌, ◌-◌, ◌*◌, ◌/◌, ◌%◌, ◌^◌, ◌<◌, ◌≤◌, List, [], ◌∷◌, ◌++◌, Result, length, replicate, slice_index}
+use Rattle.sha256.specs.Answer.{hashed, hashed_of, tagged}
 use Rattle.sha256.specs.Fips180.{W, add32, bytes_of, join, not32, padded, rotr, sha256, shl, shr, word_bytes, zero_bits, σ0, σ1}
 use Rattle.sha256.specs.Reasons.{Decided}
 use Rattle.sha256.specs.Window.{kept}
+use Rattle.sha256.specs.declared.TooLong.{TooLong}
 
 -- a digest has 32 bytes
 abbrev pub DigestLength : Type 0
@@ -100,6 +101,10 @@ HashedDecided =
     → Decided (record { answer = record { number = 1; digest = replicate 32 0 }; when = 65535 < length m } ∷ [])
     (λ a. a ≡ record { number = 0; digest = sha256 m })
     (hashed m)
+
+-- an answer's number and digest tell its case, so that the promise decides the answer
+abbrev pub OneHashed : Type 0
+OneHashed = (r s : Result (List ℕ) TooLong) → hashed_of r ≡ hashed_of s → r ≡ s
 
 -- the tag byte is hashed before the two parts
 abbrev pub TaggedHash : Type 0

@@ -21,7 +21,8 @@ pub fn initial() -> State
     }
 }
 
-// The digest that a hash value is.
+// The digest that a hash value is. A line a word: the words have the standard's names, and a loop would need
+// them in an array first.
 pub fn digest_of(s: State) -> [u8; 32]
     ensures { result ≡ fips.bytes_of (fips.hash_words s) }
 {

@@ -20,6 +20,7 @@ pub enum Input<'a> {
     },
 }
 
+// An enum has no invariant in Rattle, so each method asks for it.
 impl Input<'_> {
     // How many bytes the input has.
     fn len(&self) -> usize
@@ -50,6 +51,7 @@ impl Input<'_> {
         ensures { result ≡ fips.sha256 (input self.now) }
     {
         let mut state = initial();
+        // By number: with the blocks taken from the rest of the message the hash took more stack.
         for i in 0..block_count(self.len()) {
             let mut w = self.block(i);
             state = compress(state, &mut w);

@@ -1,5 +1,6 @@
 // FIPS 180-4, sections 5.1.1 and 5.2.1: the blocks of the padded message, each made from the
-// message where it is needed. No padded copy is kept.
+// message where it is needed. No padded copy is kept. A place goes with the message, as in the
+// definition's word_at and words_at.
 ghost use Rattle.std.specs.Prelude.{◌≡◌, ℕ, ◌+◌, ◌*◌, ◌/◌, ◌<◌, ◌≤◌, [], ◌∷◌, ◌++◌, length, slice_index};
 ghost use Rattle.sha256.specs.Fips180 as fips;
 ghost use Rattle.sha256.specs.Tail.{Ends};

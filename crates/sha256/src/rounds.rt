@@ -100,7 +100,7 @@ fn all_rounds(s: State, w: &mut [u32; 16]) -> State
     sixteen_rounds(v, w, 48)
 }
 
-// The next hash value, by the block in w. No other copy of the block is kept: in the end w has the words
+// The next hash value, by the block in w: a line a word, as in hash_value.rt. No other copy of the block is kept: in the end w has the words
 // 48 to 63.
 pub fn compress(s: State, w: &mut [u32; 16]) -> State
     ensures value { result ≡ fips.compressed s w.old }

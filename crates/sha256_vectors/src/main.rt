@@ -49,7 +49,7 @@ fn read_message<'a>(line: &[u8], room: &'a mut [u8]) -> Option<&'a [u8]> {
     let count = read_length(&line[..space])?;
     let period = read_hex(&line[space + 1..], room)?;
     let message = room.get_mut(..count)?;
-    // By index: whole periods, copied one by one, take three times as long where they are short.
+    // By index: whole periods, copied one by one, take more than twice as long where they are short.
     for i in period..count {
         message[i] = message[i - period];
     }
@@ -80,7 +80,7 @@ fn read_hex(text: &[u8], room: &mut [u8]) -> Option<usize> {
     Some(pairs.len())
 }
 
-// The value of a lowercase hexadecimal digit.
+// The value of a lowercase hexadecimal digit; to_digit would take capitals too.
 fn digit_value(byte: u8) -> Option<u8>
     ensures { IfSome result (λ digit. digit < 16) }
 {

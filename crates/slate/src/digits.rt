@@ -1,7 +1,8 @@
 // Binary digits of a position x = i - 1.
 //
-// A height is a plain number with its bound in each contract: callers pass the counters of their loops
-// and the falling numbers of their descents, of which each call would have to build a type of its own.
+// A height is a plain number with its bound in each contract, here and in the crates above: callers pass
+// the counters of their loops and the falling numbers of their descents, of which each call would have to
+// build a type of its own.
 ghost use Rattle.std.specs.Prelude.{◌≡◌, ◌<◌, ◌≤◌};
 ghost use Rattle.slate.specs.Address as address;
 ghost use Rattle.slate.specs.Digits as digits;
@@ -30,8 +31,8 @@ pub fn ones_below(x: u32, h: u32) -> u32
     (x % (1 << h)).count_ones()
 }
 
-// The height of the highest node of height at most h at position x, 0 where there is none. Internal:
-// h is below 32.
+// The height of the highest node of height at most h at position x: 0, which is the leaf's height, where
+// there is none. Internal: h is below 32.
 #[tactic(auto, using(crate::proofs::Addresses::highest_leading, crate::proofs::CodeForms::shifted_one))]
 pub fn highest(x: u32, h: u32) -> u32
     requires { h < 32 }

@@ -38,8 +38,8 @@ fn over(rule: Rule, p: u32, target: u32, child: [u8; 32], sibling: &[u8]) -> [u8
     }
 }
 
-// The fold of the leaf's digest as that of value i of n. Internal: 1 ≤ i ≤ n ≤ 4,096, and the proof
-// has the siblings.
+// The fold of the leaf's digest as that of value i of n, plain numbers as in moves.rt. Internal:
+// 1 ≤ i ≤ n ≤ 4,096, and the proof has the siblings.
 #[tactic(auto, unfolding(crate::specs::Digits::max_height))]
 pub fn fold(rule: Rule, n: u32, i: u32, leaf: [u8; 32], proof: &[u8]) -> [u8; 32]
     requires le_i { (1 ≤ i) × (i ≤ n) × (n ≤ 2 ^ digits.max_height) }
@@ -57,6 +57,7 @@ pub fn fold(rule: Rule, n: u32, i: u32, leaf: [u8; 32], proof: &[u8]) -> [u8; 32
             continue;
         }
         let (sibling, above) = rest.split_at(32);
+        // In its own variable: the borrow checker takes no array of a call into a variable that the call reads.
         let node = over(rule, p, target, own, sibling);
         own = node;
         rest = above;

@@ -1,10 +1,11 @@
-// The moves from the root of n values to leaf i, by document 01's formulas.
+// The moves from the root of n values to leaf i, by document 01's formulas: n and i are plain numbers, as in
+// hops(n, i) and lefts(n, i).
 ghost use Rattle.std.specs.Prelude.{◌≡◌, ◌<◌, ◌≤◌};
 ghost use Rattle.slate.specs.Moves as moves;
 
 use crate::digits::{MAX_HEIGHT, digit, ones_below};
 
-// The highest of the digits below h in which n and t differ.
+// The highest of the digits below h in which n and t differ; 0 where none differs, as the definition has it.
 #[tactic(auto, unfolding(crate::specs::Moves::highest_difference))]
 fn highest_difference(n: u32, t: u32, h: u32) -> u32
     requires { h ≤ 32 }

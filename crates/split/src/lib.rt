@@ -63,18 +63,6 @@ pub enum Verdict {
 }
 
 impl Verdict {
-    // Its number. A variant with a place has no discriminant to cast.
-    pub fn number(self) -> u32
-        ensures { result ≡ verdict_number (verdict_of self) }
-    {
-        match self {
-            Verdict::Same => 0,
-            Verdict::FirstShorter => 1,
-            Verdict::SecondShorter => 2,
-            Verdict::DifferAt(_) => 3,
-        }
-    }
-
     // The place of difference.
     pub fn place(self) -> Option<usize>
         ensures place { result ≡ difference (verdict_of self) }
@@ -83,6 +71,20 @@ impl Verdict {
         match self {
             Verdict::DifferAt(index) => Some(index),
             _ => None,
+        }
+    }
+}
+
+// Its number. A variant with a place has no discriminant to cast.
+impl From<Verdict> for u32 {
+    ghost from_gives = { λ verdict number. number ≡ verdict_number (verdict_of verdict) };
+
+    fn from(verdict: Verdict) -> u32 {
+        match verdict {
+            Verdict::Same => 0,
+            Verdict::FirstShorter => 1,
+            Verdict::SecondShorter => 2,
+            Verdict::DifferAt(_) => 3,
         }
     }
 }
@@ -111,7 +113,7 @@ impl From<Donor> for u32 {
     }
 }
 
-// A part of the donor up to its end.
+// A part of the donor up to its end: in numbers, since a function of C can return no part of a log.
 #[derive(Clone, Copy, PartialEq, Eq, Debug)]
 pub struct Piece {
     pub donor: Donor,
@@ -120,7 +122,8 @@ pub struct Piece {
 }
 
 // Internal: a log of `count` entries in which the search has read so many, and where it stands: at
-// last, where the entries in common end, as it reached them.
+// last, where the entries in common end, as it reached them. No Walk is in it, as that place may be the
+// end of an entry.
 #[derive(Clone, Copy)]
 pub struct Tally {
     pub count: u32,
@@ -138,7 +141,7 @@ pub struct Located {
 }
 
 // Internal: the leaf under unequal tops where the values differ, where its entries begin, and how
-// many entries were read in each log on the way.
+// many entries were read in each log on the way. Of two Walks each level of the way would make two more.
 #[derive(Clone, Copy)]
 pub struct Leaf {
     pub position: u32,

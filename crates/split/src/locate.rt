@@ -40,7 +40,8 @@ fn unmoved(opened: Opened) -> Tally
     }
 }
 
-// A log that opens so is brought to entry n. No step is taken where that is the last.
+// A log that opens so is brought to entry n. No step is taken where that is the last. Here and below what
+// opening found goes beside its log, which it does not hold.
 #[tactic(auto, unfolding(slate::specs::Digits::max_height))]
 fn bring(log: &[u8], opened: Opened, n: u32) -> Result<Walk, Cause>
     requires opens { opened_log log.now ≡ Some opened }
@@ -56,7 +57,8 @@ fn bring(log: &[u8], opened: Opened, n: u32) -> Result<Walk, Cause>
     last_entry(log, opened).descend(MAX_HEIGHT, n - 1)
 }
 
-// Both logs stand at the entry at this position: equal tops, or down to the leaf of the difference.
+// Both logs stand at the entry at this position: equal tops, or down to the leaf of the difference. The pair
+// is made here, since what this answers is over the tallies, which say where each log stands.
 #[tactic(auto, unfolding(slate::specs::Digits::max_height))]
 fn locate_at<'a>(
     first: &'a [u8],
@@ -150,7 +152,8 @@ fn locate_from(first: &[u8], second: &[u8], a: Opened, b: Opened) -> Result<Loca
     )
 }
 
-// Both logs are opened, the first before the second.
+// Both logs are opened, the first before the second. They go side by side, as the exported calls take them,
+// until their entries are a pair.
 #[tactic(auto, unfolding(crate::specs::Search::searched))]
 pub fn locate(first: &[u8], second: &[u8]) -> Result<Located, SearchRefusal>
     ensures { result ≡ located_of (searched first.now second.now) }
