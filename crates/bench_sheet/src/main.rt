@@ -79,7 +79,7 @@ fn run_moves(rt: &impl Print) -> io::Result<()> {
     print_moves(rt, 4096, 1)
 }
 
-// Here and below a refusal shows as 0 in the sheet, which the gate compares.
+// Here and below a refusal shows in the sheet, which the gate compares: as 0, or in the lines behind it.
 fn run_eight_taps(rt: &impl Print) -> io::Result<()> {
     print!(rt; "eight taps end at")?;
     for count in 1..=8 {

@@ -1,5 +1,5 @@
 -- What is claimed of the calls of this crate, in document 01's terms: each claim is a type, and proofs/ has its proof.
-use Rattle.std.specs.Prelude.{true, List, [], ◌∷◌, ◌++◌, ◌⊎◌, ◌≡◌, ℕ, ◌+◌, ◌*◌, ◌-◌, ◌^◌, ◌≤◌, ◌<◌, Result, length, get_or, drop}
+use Rattle.std.specs.Prelude.{true, List, [], ◌∷◌, ◌++◌, ◌⊎◌, ◌≡◌, ℕ, ◌+◌, ◌*◌, ◌-◌, ◌^◌, ◌≤◌, ◌<◌, Result, Ok, length, get_or, drop}
 use Rattle.sha256.specs.Reasons.{Decided, Reason}
 use Rattle.slate.specs.Digits.{max_height}
 use Rattle.slate.specs.Length.{offset}
@@ -92,6 +92,10 @@ ValueDecided =
     ∷ [])
     (λ a. Reaches b i (λ o n l. a ≡ record { number = 0; offset = l + 5; length = payload_len_at b l }))
     (checked_value b r i)
+
+-- number 0 stands beside the offset and the length of the code's part
+abbrev pub PartNumbered : Type 0
+PartNumbered = (o l : ℕ) → part_answer_of (Ok (record { offset = o; length = l })) ≡ record { number = 0; offset = o; length = l }
 
 -- a value's number and part tell its case, so that the promise decides the answer
 abbrev pub OnePart : Type 0

@@ -1,5 +1,5 @@
 // The digest of a subtree under RFC 6962's rule, hashed anew from the values: the log has those of
-// its own rule.
+// its own rule. All functions here are internal.
 ghost use Rattle.std.specs.Prelude.{◌≡◌, ℕ, ◌≤◌, ◌<◌, [], get_or};
 ghost use Rattle.slate.specs.Digits as digits;
 ghost use Rattle.slate.specs.Tree.{rfc6962, top};

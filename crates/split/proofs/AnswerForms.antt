@@ -115,5 +115,8 @@ told_piece_lem (Some p) = by_donor p.donor refl
     by_donor log.First e = rw (← e) refl
     by_donor log.Second e = rw (← e) refl
 
+pub pieces_numbered : claims.PiecesNumbered
+pieces_numbered = (λ o l. refl, λ o l. refl, refl)
+
 pub one_piece : claims.OnePiece
 one_piece p q e = sym (told_piece_lem p) ∙ ap told_piece e ∙ told_piece_lem q

@@ -1,6 +1,6 @@
 -- Demand 3, and the repair piece: each claim is a type, and proofs/ has its proof.
 -- The search of b and c answers with f, the count in common and the verdict, and with each log as it leaves it: a and d.
-use Rattle.std.specs.Prelude.{Err, List, Ok, Option, Result, [], ◌∷◌, ◌++◌, ◌⊎◌, ◌≡◌, ℕ, suc, ◌+◌, ◌-◌, ◌≤◌, ◌<◌, min, length, get_or, take, replicate}
+use Rattle.std.specs.Prelude.{Err, List, None, Ok, Option, Result, Some, [], ◌∷◌, ◌++◌, ◌⊎◌, ◌≡◌, ℕ, suc, ◌+◌, ◌-◌, ◌≤◌, ◌<◌, min, length, get_or, take, replicate}
 use Rattle.sha256.specs.Reasons.{Decided, Reason}
 use Rattle.slate.specs.Address.{highest, left_child, right_height}
 use Rattle.slate.specs.Bytes.{part}
@@ -25,6 +25,7 @@ use Rattle.split.specs.Below.{blocked, down, leaf}
 use Rattle.split.specs.Reads.{reads_formula}
 use Rattle.split.specs.Repair.{Piece, numbered, piece_of, place_of}
 use Rattle.split.specs.Search.{Trace, answered, refused, searched}
+use Rattle.split.specs.declared.Donor.TheVariants as donor
 use Rattle.split.specs.declared.Piece as code
 use Rattle.split.specs.declared.SearchAnswer.{SearchAnswer}
 use Rattle.split.specs.declared.SearchRefusal.{SearchRefusal}
@@ -256,6 +257,13 @@ PiecePlaced =
     → ((p.donor ≡ 1) × (p.offset + p.length ≡ length b) × (part b p.offset p.length ≡ piece_of b c (searched b c)))
     ⊎ (((p.donor ≡ 2) × (p.offset + p.length ≡ length c) × (part c p.offset p.length ≡ piece_of b c (searched b c)))
     ⊎ ((p.donor ≡ 0) × (p.offset ≡ 0) × (p.length ≡ 0) × ([] ≡ piece_of b c (searched b c))))
+
+-- the donor of the code's piece is 1 for the first log and 2 for the second; no piece is zeros
+abbrev pub PiecesNumbered : Type 0
+PiecesNumbered =
+    ((o l : ℕ) → numbered (Some (record { donor = donor.First; offset = o; length = l })) ≡ record { donor = 1; offset = o; length = l })
+    × ((o l : ℕ) → numbered (Some (record { donor = donor.Second; offset = o; length = l })) ≡ record { donor = 2; offset = o; length = l })
+    × (numbered None ≡ record { donor = 0; offset = 0; length = 0 })
 
 -- a piece's numbers tell the piece, so that the promise decides the answer
 abbrev pub OnePiece : Type 0

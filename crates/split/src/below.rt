@@ -1,4 +1,4 @@
-// Down from two unequal tops to the leftmost difference.
+// Down from two unequal tops to the leftmost difference. All functions here are internal.
 ghost use Rattle.std.specs.Prelude.{◌≡◌, ◌≤◌, ◌<◌, [], IfOk};
 ghost use Rattle.slate.specs.Digits.{digit, left, max_height};
 ghost use Rattle.entry.specs.Walk.{left_step};

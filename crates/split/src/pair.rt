@@ -1,5 +1,5 @@
 // The entries at one position of two logs, and the comparison of their digests: a method for each of the two
-// digests, one line long, would be no plainer with a closure that picks one.
+// digests, one line long, would be no plainer with a closure that picks one. All functions here are internal.
 ghost use Rattle.std.specs.Prelude.{◌≡◌, ◌≤◌, ◌<◌};
 ghost use Rattle.slate.specs.Bytes.{same};
 ghost use Rattle.slate.specs.Digits.{digit, max_height};
