@@ -8,6 +8,7 @@ failed".
 import os
 import pty
 import shutil
+import socket
 import subprocess
 import sys
 import tempfile
@@ -170,6 +171,17 @@ def a_report_that_cannot_be_written_has_status_2():
     for closed in [">/dev/full", ">&-"]:
         for words in [WHOLE, SAMPLES / "torn.log", "--help"]:
             expect(call(words, redirected=closed), 2, "")
+
+
+@test
+def the_program_writes_its_report_at_once():
+    for sample in ["whole", "torn", "bent"]:
+        ours, its = socket.socketpair(socket.AF_UNIX, socket.SOCK_SEQPACKET)  # keeps each write apart
+        with ours, its, open(SAMPLES / (sample + ".log"), "rb") as log:
+            subprocess.run([PROGRAM], stdin=log, stdout=its, timeout=30, check=True)
+            its.close()
+            assert ours.recv(1000).decode() == (SAMPLES / (sample + ".txt")).read_text()
+            assert ours.recv(1000) == b""
 
 
 # ---- calls

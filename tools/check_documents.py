@@ -5,6 +5,7 @@
 - In the tables of docs/DEMANDS.md every definition, function, law, proof, edit and test exists, and every claim and every
   edit is in one of them. In those of docs/DEFINITIONS.md every definition and every claim exists.
 - The public calls are those that docs/DEMANDS.md lists, and none has a `requires`.
+- No array of crates/sha256 has 64 words, as docs/DEMANDS.md says: each has sixteen.
 """
 import re
 import sys
@@ -163,12 +164,19 @@ def check_claims_named(document):
                 problem(document, "no claim " + name)
 
 
+def check_arrays(document):
+    """Each array of words in sha256 has sixteen, and no array has arrays."""
+    for array in re.findall(r"\[[^\[\]]*u32; (?!16\])\w+\]|\[\[.*?\]; \w+\]", text_of("sha256/src/*.rt")):
+        problem(document, "an array of sha256: " + array)
+
+
 def main():
     for path in [*sorted(TOP.glob("*.md")), TOP / "samples/README.md", *sorted((TOP / "docs").rglob("*.md"))]:
         check_links(path.relative_to(TOP))
     check_demands("docs/DEMANDS.md")
     check_public_calls("docs/DEMANDS.md")
     check_claims_named("docs/DEFINITIONS.md")
+    check_arrays("docs/DEMANDS.md")
     sys.exit("\n".join(problems) or 0)
 
 

@@ -1,9 +1,10 @@
--- The text of a number in decimal, digit by digit, and that it is what std writes.
+-- The text of a number in decimal, digit by digit, how long it is, and that it is what std writes.
 -- Assumes nothing.
-use Rattle.std.proofs.Common.{◌≡◌, ℕ, zero, suc, ◌+◌, ◌*◌, ◌/◌, ◌%◌, ◌^◌, ◌≤◌, ◌<◌, length, arith}
+use Rattle.std.proofs.Common.{◌≡◌, ℕ, zero, suc, ◌+◌, ◌*◌, ◌/◌, ◌%◌, ◌^◌, ◌≤◌, ◌<◌, [], ◌∷◌, ◌++◌, length, arith}
 use Rattle.std.specs.Fmt as std
-use Rattle.std.proofs.lemmas.Fmt.{decimal_from_appends, length-decimal-le, length-decimal-le_succ}
+use Rattle.std.proofs.lemmas.Fmt.{decimal_from_appends, length-decimal-le_succ}
 use borrow.Author.Tests.{le-ltb, lt-ltb}
+use lib.ListN.{length-append}
 use Rattle.audit_report.specs.Claims as claims
 use Rattle.audit_report.specs.Decimal.{decimal, decimal_in}
 use Rattle.slate.proofs.Cases.{by_order}
@@ -31,6 +32,27 @@ more_digits q r some low =
     let f : (10 * q + r) % 10 ≡ r = omega arith in
     rw (le-ltb (10 * q + r) 10 (omega arith), e, f, steps_enough (10 * q + r) (suc q) q (omega arith) (omega arith))
 
+-- of a number that is given whole
+pub last_digit : (n : ℕ) → 10 ≤ n → decimal n ≡ decimal (n / 10) ++ ((48 + n % 10) ∷ [])
+last_digit n more =
+    let e : 10 * (n / 10) + n % 10 ≡ n = omega arith in
+    rw e at (more_digits (n / 10) (n % 10) (omega arith) (omega arith))
+
+-- ---- how many digits
+
+-- at most as many as a power of ten above the number has zeros
+digits_few : (k n : ℕ) → n < 10 ^ suc k → length (decimal n) ≤ suc k
+digits_few zero n low = rw (one_digit n (omega arith)) (omega arith)
+digits_few (suc k) n low =
+    let shorter : n / 10 < 10 ^ suc k → length (decimal (n / 10)) ≤ suc k = digits_few k (n / 10) in
+    by_order n 10
+    (λ few. rw (one_digit n few) (omega arith))
+    (λ more. rw (last_digit n more) (simp length-append (omega (arith, shorter (omega arith)))))
+
+-- a number of 64 bits has at most 20 digits
+pub decimal_short : (n : ℕ) → n < 2 ^ 64 → length (decimal n) ≤ 20
+decimal_short n h = digits_few 19 n (omega arith)
+
 -- ---- what std writes
 
 -- of a number of 64 bits
@@ -41,7 +63,3 @@ decimal_std n low =
       one = λ k m few. rw (lt-ltb m 10 few);
       more = λ k m many. rw (le-ltb m 10 many);
     }) (suc n) n low (omega (arith, length-decimal-le_succ n low))
-
--- it has at most 20 digits
-pub decimal_short : (n : ℕ) → n < 2 ^ 64 → length (decimal n) ≤ 20
-decimal_short n low = rw (decimal_std n low) (length-decimal-le 20 n (omega arith) (omega arith) low)

@@ -1,5 +1,4 @@
--- A text in a buffer, from a place on. No function promises it now: a report is a text that its Display writes, and the claim `PutFirst`
--- is over this.
+-- What the functions that write a text piece by piece promise.
 use Rattle.std.specs.Prelude.{List, ◌≡◌, ℕ, ◌+◌, length}
 use Rattle.entry.specs.Write.{write_at}
 

@@ -1,14 +1,18 @@
 // The program ringaudit: what it writes of its input. specs/Report.antt says it byte by byte.
 #![tactic(auto)]
 
-ghost use Rattle.std.specs.Prelude.{◌≡◌, ◌≤◌, OnOk, Some, eqb, length};
-ghost use Rattle.sha256.specs.Pick.{pick};
+mod put;
+
+ghost use Rattle.std.specs.Prelude.{◌∷◌, ◌+◌, ◌≡◌, ◌≤◌, OnOk, length};
+ghost use Rattle.input.specs.Counts.{IsPrefixLen};
 ghost use Rattle.audit_report.specs.Findings.{text_of};
-ghost use Rattle.audit_report.specs.Report.{report_text, torn_word, whole_word};
+ghost use Rattle.audit_report.specs.Put.{Put};
+ghost use Rattle.audit_report.specs.Report.{lines_text, report_text, state_line};
 ghost use Rattle.audit_report.specs.Run.{Reported};
 
+use put::{put_number, put_text};
+use std::io;
 use std::io::{Read, Write};
-use std::{fmt, io};
 
 // The most bytes that are audited.
 const MOST: usize = 65536;
@@ -17,7 +21,7 @@ const MOST: usize = 65536;
 // 13 bytes for the state.
 pub const ROOM: usize = 92;
 
-// What is found of an input. `{}` writes the report.
+// What is found of an input.
 #[derive(Clone, Copy)]
 pub enum Findings {
     TooLong,
@@ -29,32 +33,22 @@ pub enum Findings {
     },
 }
 
-impl fmt::Display for Findings {
-    ghost output = { λ findings. Some (text_of findings) };
-
-    fn fmt<W: fmt::Write>(&self, f: &mut fmt::Formatter<W>) -> fmt::Result {
-        match *self {
-            Findings::TooLong => writeln!(f, "input over 65536 bytes"),
+impl Findings {
+    // Puts the report at the start of out, and answers how many bytes it has. It is no Display: what a `write!` makes is
+    // promised only where it succeeds, and each of its pieces would be a write of its own.
+    pub fn put(self, out: &mut [u8; ROOM]) -> usize
+        ensures put { Put out.old 0 (text_of self) out.new result }
+        ensures prefix_len { IsPrefixLen result out.new }
+    {
+        match self {
+            Findings::TooLong => put_text(out, 0, b"input over 65536 bytes\n"),
             Findings::Audited {
                 entries,
                 bytes,
                 total,
-            } => {
-                let state = state(bytes, total);
-                writeln!(
-                    f,
-                    "entries {entries}\nbytes {bytes} of {total}\nstate {state}"
-                )
-            }
+            } => put_lines(out, entries, bytes, total),
         }
     }
-}
-
-// The state is whole if all bytes count.
-fn state(bytes: usize, total: usize) -> &'static str
-    ensures { result.now ≡ pick (eqb bytes total) whole_word torn_word }
-{
-    if bytes == total { "whole" } else { "torn" }
 }
 
 // The report of an input, which has at most ROOM bytes.
@@ -80,6 +74,30 @@ pub fn run<R: Read, W: Write>(reader: &mut R, writer: &mut W) -> io::Result<()>
 {
     let mut buffer = [0u8; MOST + 1];
     let got = input::read_full(reader, &mut buffer)?;
-    let findings = report(&buffer[..got]);
-    write!(writer, "{findings}")
+    let mut text = [0u8; ROOM];
+    let count = report(&buffer[..got]).put(&mut text);
+    writer.write_all(&text[..count])
+}
+
+// The three lines of what an audit found. Internal: there is room for them.
+fn put_lines(out: &mut [u8], entries: usize, bytes: usize, total: usize) -> usize
+    requires { 92 ≤ length out.old }
+    ensures { Put out.old 0 (lines_text entries bytes total) out.new result }
+{
+    let entries_end = put_number(out, 0, b"entries ", entries);
+    let bytes_end = put_number(out, entries_end, b"\nbytes ", bytes);
+    let total_end = put_number(out, bytes_end, b" of ", total);
+    put_state(out, total_end, bytes == total)
+}
+
+// A line end, and the line of the state. Internal: there is room for them.
+fn put_state(out: &mut [u8], at: usize, whole: bool) -> usize
+    requires { at + 13 ≤ length out.old }
+    ensures put { Put out.old at (10 ∷ state_line whole) out.new result }
+    ensures upper_bound { result ≤ at + 13 }
+{
+    if whole {
+        return put_text(out, at, b"\nstate whole\n");
+    }
+    put_text(out, at, b"\nstate torn\n")
 }

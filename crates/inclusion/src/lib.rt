@@ -12,7 +12,7 @@ mod values;
 
 pub use checking::{check_proof, proof_holds};
 pub use proving::proof;
-pub use values::{value, value_place};
+pub use values::{value, value_number, value_place};
 
 // A part of the lent log: in numbers, since a function of C can return no part of a log.
 #[derive(Clone, Copy, PartialEq, Eq, Debug)]

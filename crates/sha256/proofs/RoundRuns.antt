@@ -1,7 +1,8 @@
 -- Rounds, one after the other.
 -- Assumes nothing.
-use Rattle.std.proofs.Common.{◌≡◌, ℕ, suc, ◌+◌, ◌/◌, List, length, ap, ◌∙◌, ap₂, add-one, arith}
-use Rattle.sha256.specs.Fips180.{W, K, H, block, bytes_of, compressed, hash_words, padded, round, rounds, sha256}
+use Rattle.std.proofs.Common.{◌≡◌, ℕ, suc, ◌+◌, ◌/◌, ◌<◌, List, length, take, drop, slice_index, ap, ◌∙◌, ap₂, add-one, arith}
+use Rattle.std.proofs.lemmas.List.{get_or-drop, get_or-take}
+use Rattle.sha256.specs.Fips180.{W, K, constants, H, block, bytes_of, compressed, hash_words, padded, round, rounds, sha256}
 use Rattle.sha256.specs.Rounds.{Ran}
 use Rattle.sha256.specs.Window.{rolled_by}
 use Rattle.sha256.specs.declared.State.{State}
@@ -15,6 +16,11 @@ rounds_more M i t = rw add-one
 pub round_step : (M : List ℕ) (i s r : State) (t k w : ℕ) → k ≡ K t → s ≡ rounds M i t → w ≡ W M t → r ≡ round s k w
     → r ≡ rounds M i (t + 1)
 round_step M i s r t k w ek es ew er = cc (rounds_more M i t)
+
+-- of sixteen constants in their order from K_t on, number i is that of round t + i
+pub constant_of : (k : List ℕ) (t : ℕ) → k ≡ take 16 (drop t constants) → (i u : ℕ) → i < 16 → u ≡ t + i → slice_index k i ≡ K u
+unfolding K
+constant_of k t e i u b eu = rw (e, eu) (get_or-take 16 (drop t constants) i 0 b ∙ get_or-drop t constants i 0)
 
 -- n rounds from round t on
 pub record Rounds (t n : ℕ) (s : State) (w : List ℕ) (r : State) (v : List ℕ) : Type 0 where

@@ -30,10 +30,23 @@ fn answer_lines(rt: &impl Print, text: &[u8]) -> io::Result<()> {
 }
 
 fn answer_line(rt: &impl Print, line: &[u8]) -> io::Result<()> {
-    match read_message(line, &mut [0u8; MOST]) {
-        Some(message) => print_answer(rt, sha256::sha256(message)),
-        None => rt.write_all(b"bad line\n"),
+    match read_line(line) {
+        Some((count, digits)) => answer_message(rt, count, digits),
+        None => print_bad_line(rt),
     }
+}
+
+// The message of `count` bytes that the digits say, over and over. Room for it is made here, behind what else a line
+// may lack: to fill it with zeros takes far longer than to see that a line is none.
+fn answer_message(rt: &impl Print, count: usize, digits: &[u8]) -> io::Result<()> {
+    match read_message(count, digits, &mut [0u8; MOST]) {
+        Some(message) => print_answer(rt, sha256::sha256(message)),
+        None => print_bad_line(rt),
+    }
+}
+
+fn print_bad_line(rt: &impl Print) -> io::Result<()> {
+    rt.write_all(b"bad line\n")
 }
 
 fn print_answer(rt: &impl Print, hashed: Result<[u8; 32], TooLong>) -> io::Result<()> {
@@ -43,11 +56,16 @@ fn print_answer(rt: &impl Print, hashed: Result<[u8; 32], TooLong>) -> io::Resul
     }
 }
 
-// The message of a line, at the start of room. None where the line is none, or room is too short.
-fn read_message<'a>(line: &[u8], room: &'a mut [u8]) -> Option<&'a [u8]> {
+// The length of a line's message, and its digits. None where the line has no such length or no space.
+fn read_line(line: &[u8]) -> Option<(usize, &[u8])> {
     let space = line.iter().position(|byte| *byte == b' ')?;
     let count = read_length(&line[..space])?;
-    let period = read_hex(&line[space + 1..], room)?;
+    Some((count, &line[space + 1..]))
+}
+
+// The message, at the start of room. None where the digits are none, or room is too short.
+fn read_message<'a>(count: usize, digits: &[u8], room: &'a mut [u8]) -> Option<&'a [u8]> {
+    let period = read_hex(digits, room)?;
     let message = room.get_mut(..count)?;
     // By index: whole periods, copied one by one, take more than twice as long where they are short.
     for i in period..count {
@@ -56,14 +74,18 @@ fn read_message<'a>(line: &[u8], room: &'a mut [u8]) -> Option<&'a [u8]> {
     Some(message)
 }
 
-// How many bytes a decimal number of bits comes to.
+// How many bytes a decimal number of bits comes to. A number above that of any message is not read to its end, so that
+// no sum wraps and no room is made for it.
 fn read_length(text: &[u8]) -> Option<usize> {
-    // Parsing alone would take a plus sign too.
-    if !text.iter().all(|byte| byte.is_ascii_digit()) {
-        return None;
+    let mut bits = 0;
+    for byte in text {
+        if bits > 8 * MOST || !byte.is_ascii_digit() {
+            return None;
+        }
+        bits = bits * 10 + usize::from(byte - b'0');
     }
-    let bits: usize = str::from_utf8(text).ok()?.parse().ok()?;
-    (bits % 8 == 0).then_some(bits / 8)
+    let is_length = !text.is_empty() && bits % 8 == 0 && bits <= 8 * MOST;
+    is_length.then_some(bits / 8)
 }
 
 // Puts the bytes that the hexadecimal digits of text say at the start of room, and answers how many

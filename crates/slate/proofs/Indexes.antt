@@ -11,7 +11,7 @@ use Rattle.slate.specs.Index.{is_index}
 use Rattle.slate.proofs.Cases.{by_order, true_false}
 
 module _ (i n : ℕ) where
-  index_none : i ≡ 0 → is_index i n ≡ false
+  pub index_none : i ≡ 0 → is_index i n ≡ false
   unfolding is_index
   index_none z = rw (lt-leb 1 i (omega arith))
 

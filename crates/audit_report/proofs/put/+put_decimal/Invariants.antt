@@ -1,0 +1,5 @@
+-- Each call is on fewer digits.
+use Rattle.audit_report.proofs.put.+put_decimal.Given as goal
+
+abbrev pub decreases-put_decimal : goal.decreases-put_decimal
+decreases-put_decimal l = l.n
